@@ -56,7 +56,7 @@ COMMANDS = {
 LINES = lines.names()
 # The requests of docs/reference/gdb.md: what their data is, or begins with.
 REQUESTS = ["?", "g", "G", "p", "P", "m", "M", "X", "s", "c", "bs", "bc"]
-REQUESTS += [f"{letter}{point}," for letter in "Zz" for point in range(3)]
+REQUESTS += [f"{letter}{point}," for letter in "Zz" for point in range(5)]
 REQUESTS += ["qSupported", "qXfer:features:read:target.xml:", "Hg", "Hc", "T", "qC", "qAttached"]
 REQUESTS += ["qfThreadInfo", "qsThreadInfo", "qRcmd,", "QStartNoAckMode", "D", "vKill;", "k"]
 REQUESTS += ["!", "vRun;", "R", "qXfer:memory-map:read:", "qs360.moved"]

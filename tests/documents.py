@@ -43,7 +43,7 @@ CARRIED_OUT = ("README.md", "docs/guide.md", "docs/reference/media.md")
 PICTURE = TOP / "docs/time.svg"
 PROGRAMS = [TOP / "crates" / name / "out" / name for name in ("s360dbg", "s360gdb")]
 EXAMPLES = sorted((TOP / "examples").rglob("*.s360"))
-MOST_LINES_OF_README = 110
+MOST_LINES_OF_README = 100
 MOST_WORDS, MOST_USER_WORDS = 26_200, 17_600
 MOST_LINES, MOST_COLUMNS = 449, 160
 # The folders in which a name of the code may stand.

@@ -50,10 +50,13 @@ def spoken(place):
 
 
 def why_of(text):
-    """The number of the change that `why` tells, and the places that it was made of."""
-    made, *below = text.splitlines()
-    words = [line.split()[0] for line in below if not line.startswith("  decided by")]
-    return int(re.search(r" by (\d+) ", made)[1]), {name for word in words for name in places_of(word)}
+    """The number of the change that `why!` tells, and the places that it was made of."""
+    made = text.splitlines()[0]
+    name = r"[a-z]+[0-9A-F-]*"
+    item = rf"{name}(?: \(\d+\)| by patch \d+| from the start)?"
+    items = re.search(rf" of ({item}(?:, {item})*)$", made)
+    words = re.findall(rf"(?:^|, )({name})", items[1]) if items else []
+    return int(made.split()[0]), {name for word in words for name in places_of(word)}
 
 
 def luminance(digits):
@@ -271,7 +274,7 @@ class Looks:
         for example in examples:
             numbers = [number for number, change in enumerate(example.changes, 1) if change.places]
             asked = [[some.choice(example.changes[number - 1].places), number] for number in some.choices(numbers, k=count)]
-            lines = [line for place, number in asked for line in (f"goto {number}", f"why {spoken(place)} 1")]
+            lines = [line for place, number in asked for line in (f"goto {number}", f"why! {spoken(place)} 1")]
             answers = answers_of(program, example.words_of_program(), [*example.lines(), *lines])[len(example.lines()) + 1 :: 2]
             self.open(example.name)
             script = """asked.map(([place, number]) => {

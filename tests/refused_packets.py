@@ -1,8 +1,8 @@
 """What s360gdb may answer to a row of packets if one growth of memory is refused.
 
 The request for which memory is wanting is answered `E0c`. Of what it asks nothing is done then, or
-some first events stand, or all is done and the answer alone is lost; an inquiry leaves the
-recording at some change. All other answers are those of a target that stands there: the second one
+some first events stand, or all is done and the answer alone is lost; one that goes back has taken some last
+changes back; an inquiry leaves the recording at some change. All other answers are those of a target that stands there: the second one
 (`second/remote.py`) tells them. If a growth is wanted
 where nothing can be answered, the program ends with status 1. What it has answered is then the
 beginning of the row's answers.
@@ -28,12 +28,13 @@ from second.remote import MALFORMED, MEMORY, OK, Target
 OUT_OF_MEMORY = "s360gdb: memory: out of memory"
 AT_THE_START = b"T05replaylog:begin;"
 LEAVE = re.compile(rb"\$(?:D|k|vKill;[0-9a-f]+)#")
-SET_POINT = re.compile(rb"\$Z([012],[0-9a-f]+,[0-9a-f]+)#")
+SET_POINT = re.compile(rb"\$Z([0-4],[0-9a-f]+,[0-9a-f]+)#")
 # Altered storage is asked for in whole blocks.
 BLOCK = 256
 # Nothing was done, or nothing but that the line before is the last one no longer.
 NOT_AT_ALL, BEGUN = -1, -2
 LINE = b"qRcmd,"
+GOING_BACK = (b"bs", b"bc")
 # What is answered to no request, and what is not answered.
 NEED_NONE = ([], [b""], [MALFORMED])
 SHOWN = 300
@@ -48,7 +49,7 @@ class LackingRecording(Recording):
 
     def __init__(self, *media, **options):
         super().__init__(*media, **options)
-        self.events_left = None  # no bound
+        self.events_left = self.backs_left = None  # no bound
         self.altered = set()
 
     def happen(self, event, act):
@@ -61,15 +62,24 @@ class LackingRecording(Recording):
         self.altered.update(int(place[1:], 16) for place in places if place.startswith("s"))
 
 
+    def take_back(self):
+        """What was taken back is looked at, which takes memory."""
+        super().take_back()
+        if self.backs_left is not None:
+            self.backs_left -= 1
+            if self.backs_left == 0:
+                raise WantOfMemory
+
+
 class LackingTarget(Target):
-    """A target that lacks memory at one request, of which at most so many events stand then; or
-    which is an inquiry, and leaves the recording at the change of this number."""
+    """A target that lacks memory at one request, of which at most so many events stand then, or which has taken so many
+    changes back; or which is an inquiry, and leaves the recording at the change of this number."""
 
     recording_type = LackingRecording
 
-    def __init__(self, row, request=None, events=0, number=None):
+    def __init__(self, row, request=None, events=0, number=None, backs=None):
         super().__init__(deck_of(row.words), protects_fetches=FETCH in row.words)
-        self.request, self.events, self.number = request, events, number
+        self.request, self.events, self.number, self.backs = request, events, number, backs
         self.answers = []  # to each request
         self.is_done = False  # the request, and its answer alone is lost
 
@@ -83,6 +93,8 @@ class LackingTarget(Target):
         told = list(self.told)
         if self.number is not None:
             self.stand_at_change(data)
+        elif self.backs is not None:
+            self.go_partly_back(data)
         elif self.events == BEGUN:
             self.is_moved = False
         elif self.events != NOT_AT_ALL:
@@ -96,6 +108,16 @@ class LackingTarget(Target):
         self.told, self.ended = told, False
         return [MEMORY]
 
+    def go_partly_back(self, data):
+        """Any request but those that go back has done nothing."""
+        self.is_done = True
+        if data in GOING_BACK:
+            self.recording.backs_left = self.backs
+            try:
+                super().answer(data)
+            except WantOfMemory:
+                self.is_done = False
+            self.recording.backs_left = None
 
     def stand_at_change(self, data):
         """What an inquiry has done by then; any other request has done nothing."""
@@ -180,7 +202,7 @@ class Conversation:
 
     def outcomes(self, request):
         """What may come of want of memory at a request."""
-        for kind, first in (("events", BEGUN), ("number", 0)):
+        for kind, first in (("events", BEGUN), ("number", 0), ("backs", 1)):
             for count in itertools.count(first):
                 outcome = self.outcome(request, **{kind: count})
                 yield outcome

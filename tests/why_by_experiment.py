@@ -5,7 +5,7 @@
 
 A session is a random script, of which most cases are one instruction. Its changes are taken in
 falling order of their numbers, since a patch in the past drops what was recorded after it. Of
-change K, `why P 1` tells the deciders, and the sources of a place P that K altered. From just
+change K, `why! P 1` tells the deciders, and the sources of a place P that K altered. From just
 before K, the event of K is run again
 
   - after patches of one or more places that are no sources: P has to get the same value, if the
@@ -62,7 +62,11 @@ CHANNEL_MASKS, EXTERNAL_MASK, KEY = 3 << 62, 1 << 56, 5
 # What alters a place that no patch does.
 KEYS = {"run": "key stop", "ext": "key interrupt", "u01F": "key request"}
 KEYS |= {"d00C": "key eof", "d01F": "enter A"}
-CAUSE = re.compile(r" *(\S+?)(?:-(\S+))?(?: (.*?))?(?: by (\d+)\b.*| from the start)?")
+# A source: a place, or the first and the last of some bytes, and where its value comes from.
+SOURCE = r"(p|run|ext|[rskud][0-9A-F]+)(?:-([0-9A-F]+))?(?: \(\d+\)| by patch \d+| from the start)?"
+PLAIN_SOURCE = SOURCE.replace("(p|", "(?:p|").replace("([0", "(?:[0")
+# The number of an event, the place that it made, and its sources.
+TOLD = re.compile(rf"(\d+) [^:]*: (\S+).*?(?: of ({PLAIN_SOURCE}(?:, {PLAIN_SOURCE})*))?")
 DECIDED = re.compile(r"  decided by (.*)")
 # A decider: a place, the first and the last of some bytes, or the PSW with its value.
 DECIDER = re.compile(r"(?:p [0-9A-F]{16}|(\S+?)(?:-(\S+))?(?: \(\d+\))?)(?: |$)")
@@ -179,14 +183,14 @@ class Experiments:
         self.say(line)
         value = self.value(place)
         self.say(f"why {words(place)} {1 + self.random.randrange(6)}")
-        told, *below = self.say(f"why {words(place)} 1")
-        first = CAUSE.fullmatch(told)
-        if (first[1], first[4]) != (place, str(number)):
+        told, *below = self.say(f"why! {words(place)} 1")
+        first = TOLD.fullmatch(told)
+        if first is None or (first[2], first[1]) != (place, str(number)):
             self.faults.append(f"seed {self.seed}: of {place} and change {number}: {told}")
             return
-        deciders = deciders_of(below.pop(0)) if below and DECIDED.fullmatch(below[0]) else []
-        causes = [CAUSE.fullmatch(line) for line in below]
-        sources = [source for cause in causes for source in places_between(cause[1], cause[2])]
+        deciders = [decider for line in below for decider in deciders_of(line)]
+        found_sources = re.finditer(SOURCE, first[3] or "")
+        sources = [source for each in found_sources for source in places_between(each[1], each[2])]
         near = [place, *sources, *change.places, *self.operands(found, place)]
         beside = set(self.beside(near))
         for _ in range(TRIES):

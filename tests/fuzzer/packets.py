@@ -111,7 +111,7 @@ class Requests(random.Random):
         """A breakpoint, or bytes that are watched, mostly where the machine gets to."""
         near = self.choice([self.code(), DATA + self.randrange(8)])
         at = near if self.random() < 0.8 else self.address()
-        name, kind = self.choice([b"Z", b"Z", b"z"]), self.choice([0, 0, 1, 2, 2, 3])
+        name, kind = self.choice([b"Z", b"Z", b"z"]), self.choice([0, 0, 1, 2, 2, 3, 4, 5])
         return b"%s%d,%x,%x" % (name, kind, at, self.choice([1, 2, 4, 4, self.count()]))
 
     def register(self):
@@ -178,7 +178,7 @@ class Requests(random.Random):
         at, number = self.address() % (1 << 24), self.randrange(1, 30)
         place = self.choice([*PLACES, f"s {at:X}", f"k {at:X}", f"r {number % 4}"]).encode()
         places = [b"who %s" % place, b"changes %s" % place, b"changes %s %d" % (place, number), b"stores %s %d" % (place, number)]
-        places += [b"readers %s" % place, b"uses %s %d" % (place, number), b"count %s" % place, b"readers %s" % self.altered()]
+        places += [b"readers %s" % place, b"uses %s %d" % (place, number), b"count %s" % place, b"readers %s" % self.stored()]
         places += [b"%s s %X-%X" % (self.choice([b"stores", b"readers", b"count"]), at, at + self.randrange(-1, 64))]
         numbers = [b"goto %d" % number, b"history %d" % number, b"dump %X %d" % (at, number)]
         visits = [b"visits %X" % self.code(), b"visits %X %d" % (at, number), b"jumps %d" % number, b"visits svc %X" % (number % 4)]
@@ -188,14 +188,15 @@ class Requests(random.Random):
 
     def why(self):
         depth = self.choice(["", *range(7), self.choice([7, 30, 100, 101, "x"])])
-        return b"qRcmd," + (b"why %s %s" % (self.altered(), str(depth).encode())).hex().encode()
+        line = b"%s %s %s" % (self.choice([b"why", b"why", b"why!"]), self.stored(), str(depth).encode())
+        return b"qRcmd," + line.hex().encode()
 
-    def altered(self):
-        """A place that a change altered, most of them by the CPU, or any that has a name."""
-        altering = [change for change in self.changes if change.places]
-        by_cpu = [change for change in altering if change.event[0] == "cpu"]
-        some = by_cpu if by_cpu and self.random() < 0.7 else altering
-        place = self.choice(self.choice(some).places if some else NAMED)
+    def stored(self):
+        """A place that an event stored, most of them by the CPU, or any that has a name."""
+        storing = [change for change in self.changes if change.noted]
+        by_cpu = [change for change in storing if change.event[0] == "cpu"]
+        some = by_cpu if by_cpu and self.random() < 0.7 else storing
+        place = self.choice(sorted(self.choice(some).noted) if some else NAMED)
         return (place if place in NAMED else f"{place[0]} {place[1:]}").encode()
 
     def storage(self):

@@ -4,6 +4,7 @@ monitor key eof
 monitor load 00C
 continue
 monitor why s 388
+monitor why! s 388 1
 monitor who s 388
 monitor where
 monitor who s 388

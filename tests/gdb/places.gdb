@@ -7,7 +7,7 @@ who RDCCW
 print RDCCW
 why RDCCW 1
 why TEXT 1
-why LINE[0] 2
+why! LINE[0] 2
 who RDCCW+0
 goto last
 # a field of 4 bytes of which one has changed, a register, other ways to say the byte at 388, and the PSW

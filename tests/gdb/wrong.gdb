@@ -2,10 +2,8 @@
 # What the machine has not: gdb says so, and the session goes on
 x/xb 0x1fff
 x/xb 0x2000
-# Reads aren't watched, and gdb's own record is not begun: each is refused at once, and other watches stay
+# gdb's own record is not begun: it is refused at once, and watches stay
 watch *(char*)0x302
-rwatch *(char*)0x300
-awatch *(char*)0x301
 record
 record full
 record btrace

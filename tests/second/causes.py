@@ -7,31 +7,31 @@ from .channels import UNITS
 from .deciders import deciders
 from .sources import sources
 
-BYTES_SHOWN = 16
+BYTES_SHOWN, COLUMNS, MOST_LINES = 16, 120, 1000
 PSW = "p"
 # The kinds of places in their order.
 KINDS = (PSW, "r", "s", "k", "run", "ext", "u", "d")
+START = "start"
 
 
 class Cause(NamedTuple):
-    """Places that are told together, with the value that they had, and the number of the change
-    that made it, if one did."""
+    """Places that are told together, and the number of the event that made them, or the start; or
+    nothing, if that is not told."""
 
     places: tuple[str, ...]
-    value: str
-    number: int | None
+    origin: int | str | None
 
     @property
     def name(self):
         first, *others = self.places
         return f"{named(first)}{f'-{named(others[-1])[1:]}' if others else ''}"
 
-    @property
-    def as_decider(self):
-        """What is told of it where it decides: the PSW is not followed, and has its value."""
-        if self.places == (PSW,):
-            return f"{self.name} {self.value}"
-        return self.name if self.number is None else f"{self.name} ({self.number})"
+
+class Node(NamedTuple):
+    """Places that an event made at once."""
+
+    number: int
+    places: tuple[str, ...]
 
 
 class Causes:
@@ -39,69 +39,96 @@ class Causes:
 
     def __init__(self, inquiries):
         self.inquiries = inquiries
-        self.numbers = {}
-        for number, change in enumerate(inquiries.recording.changes, 1):
-            for place in change.places:
-                self.numbers.setdefault(place, []).append(number)
-        self.made = functools.cache(self.made)
+        self.changes = inquiries.recording.changes[:]
+        self.stores = numbers_by_place(change.noted for change in self.changes)
+        self.alterations = numbers_by_place(change.places for change in self.changes)
+        self.causes_of = functools.cache(self.causes_of)
 
-    def lines(self, place, depth):
-        return self.lines_of(self.cause((place,), self.inquiries.standing + 1), depth)
+    def lines(self, place, depth, in_full):
+        """The lines of the chain, of which one level after the other is found."""
+        number = last_before(self.stores, place, len(self.changes) + 1)
+        if number is None:
+            return [f"{self.name_and_value((place,))} from the start"]
+        level = [Node(number, (place,))]
+        nodes = dict.fromkeys(level)
+        for _ in range(1, depth):
+            below = [node for each in level for node in self.nodes_below(each)]
+            level = [node for node in dict.fromkeys(below) if node not in nodes]
+            nodes |= dict.fromkeys(level)
+            if len(nodes) > MOST_LINES:
+                break
+        told = list(nodes)[:MOST_LINES]
+        lines = [line for node in told for line in self.lines_of(node, in_full)]
+        return lines if len(nodes) <= MOST_LINES else [*lines, "and more"]
 
-    def lines_of(self, cause, depth, level=0, is_followed=True):
-        """The lines of a cause, and below it of its own causes, so many levels deep."""
-        line = f"{'  ' * level}{cause.name}{cause.value and ' '}{cause.value}"
-        if not is_followed:
-            yield line
-        elif cause.number is None:
-            yield f"{line} from the start"
-        elif depth == 0:
-            yield f"{line} by {cause.number}"
-        else:
-            event, decided, causes = self.made(cause.number, cause.places)
-            yield f"{line} by {cause.number} {event}"
-            if decided:
-                yield f"{'  ' * (level + 1)}decided by {' '.join(decided)}"
-            for below in causes:
-                is_psw = below.places == (PSW,)
-                yield from self.lines_of(below, depth - 1, level + 1, is_followed=not is_psw)
+    def nodes_below(self, node):
+        causes = self.causes_of(node)
+        return [Node(cause.origin, cause.places) for cause in causes if self.is_event(cause.origin)]
 
-    def made(self, number, places):
-        """The event of a change in words, its deciders, and the causes of places that it made."""
-        inquiries = self.inquiries
-        inquiries.go_to(number)
-        name, fields = inquiries.recording.changes[-1].event
-        inquiries.go_to(number - 1)
-        found = sources(inquiries.machine, name, fields)
-        each = {source for place in places for source in found.get(place, [place])}
-        decided = self.causes(deciders(inquiries.machine, name), number)
-        decided = [cause.as_decider for cause in decided]
-        return inquiries.happening(name), decided, self.causes(each, number)
+    def is_event(self, origin):
+        """Whether an origin is an event that is no patch."""
+        return isinstance(origin, int) and not self.is_patch(origin)
 
-    def causes(self, places, before):
-        in_order = sorted(set(places), key=order_of)
-        return [self.cause(together, before) for together in self.runs(in_order, before)]
+    def is_patch(self, number):
+        return self.changes[number - 1].event[0].startswith("patch")
 
-    def runs(self, places, before):
-        """Bytes with rising addresses that one change, or none, made last before this one stand
-        together."""
-        runs = []
-        for place in places:
-            follows = runs and is_next(runs[-1][-1], place)
-            if follows and self.last(runs[-1][-1], before) == self.last(place, before):
-                runs[-1].append(place)
-            else:
-                runs.append([place])
-        return map(tuple, runs)
+    def lines_of(self, node, in_full):
+        causes = [f"{cause.name}{self.origin_words(cause.origin)}" for cause in self.causes_of(node)]
+        of = [f"{', ' if i else ' of '}{words}" for i, words in enumerate(causes)]
+        head = self.head(node)
+        if not in_full:
+            yield filled(head, of)
+            return
+        yield "".join([head, *of])
+        if decided := self.deciders_of(node.number):
+            yield " ".join(["  decided by", *decided])
 
-    def last(self, place, before):
-        """The number of the last change of a place before one of this number."""
-        numbers = self.numbers.get(place, [])
-        earlier = bisect.bisect_left(numbers, before)
-        return numbers[earlier - 1] if earlier else None
+    def origin_words(self, origin):
+        if origin is None:
+            return ""
+        if origin == START:
+            return " from the start"
+        return f" by patch {origin}" if self.is_patch(origin) else f" ({origin})"
 
-    def cause(self, places, before):
-        return Cause(places, self.value(places), self.last(places[0], before))
+    def head(self, node):
+        """The event of a node, and what it made, with its value after the event."""
+        self.inquiries.go_to(node.number)
+        made = self.name_and_value(node.places)
+        self.inquiries.go_to(node.number - 1)
+        event = self.inquiries.happening(self.changes[node.number - 1].event[0])
+        return f"{node.number} {event}: {made}"
+
+    def name_and_value(self, places):
+        value = self.value(places)
+        return f"{Cause(places, None).name}{value and ' '}{value}"
+
+    def causes_of(self, node):
+        """What the event of a node made its places of."""
+        self.inquiries.go_to(node.number - 1)
+        name, fields = self.changes[node.number - 1].event
+        found = sources(self.inquiries.machine, name, fields)
+        made_of = {source for place in node.places for source in found.get(place, [place])}
+        return causes_from(made_of, lambda place: self.origin(place, node.number))
+
+    def origin(self, place, before):
+        """Where a value came from before the event of a number. Of the PSW and of a device that is not told."""
+        if place == PSW or place[0] == "d":
+            return None
+        number = last_before(self.stores, place, before)
+        return START if number is None else number
+
+    def deciders_of(self, number):
+        """What decided an event: the PSW with its value, another with the number of its last change."""
+        self.inquiries.go_to(number - 1)
+        name, _ = self.changes[number - 1].event
+        places = deciders(self.inquiries.machine, name)
+        by_change = lambda place: None if place == PSW else last_before(self.alterations, place, number) or START
+        return [self.as_decider(cause) for cause in causes_from(places, by_change)]
+
+    def as_decider(self, cause):
+        if cause.origin is None:
+            return self.name_and_value(cause.places)
+        return cause.name if cause.origin == START else f"{cause.name} ({cause.origin})"
 
     def value(self, places):
         """The value of places; nothing of what is not there."""
@@ -116,6 +143,50 @@ class Causes:
         count = min(len(places), BYTES_SHOWN, max(machine.size - number, 0))
         shown = machine.run_of_bytes(number, count).hex().upper()
         return f"{shown}.." if count and len(places) > BYTES_SHOWN else shown
+
+
+def numbers_by_place(places_of_changes):
+    """The numbers of the changes in which a place is, ascending."""
+    numbers = {}
+    for number, places in enumerate(places_of_changes, 1):
+        for place in places:
+            numbers.setdefault(place, []).append(number)
+    return numbers
+
+
+def last_before(numbers_by_place, place, before):
+    """The last number of a place before another."""
+    numbers = numbers_by_place.get(place, [])
+    earlier = bisect.bisect_left(numbers, before)
+    return numbers[earlier - 1] if earlier else None
+
+
+def causes_from(places, origin):
+    """Places in their order. Successive bytes of one origin stand together."""
+    runs = []
+    for place in sorted(set(places), key=order_of):
+        if runs and is_next(runs[-1][-1], place) and origin(runs[-1][-1]) == origin(place):
+            runs[-1].append(place)
+        else:
+            runs.append([place])
+    return [Cause(tuple(run), origin(run[0])) for run in runs]
+
+
+def runs_of(places):
+    """Places in their order, each once. Successive bytes stand together."""
+    return [cause.places for cause in causes_from(places, lambda _: None)]
+
+
+def filled(head, items):
+    """A line with as many first items as it has room for, beside the words that count the others."""
+    line = head
+    for told, item in enumerate(items):
+        left = len(items) - told
+        more = f" and {left - 1} more" if left > 1 else ""
+        if len(line) + len(item) + len(more) > COLUMNS:
+            return f"{line} and {left} more"
+        line += item
+    return line
 
 
 def order_of(place):

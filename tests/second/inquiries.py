@@ -2,10 +2,9 @@
 
 Source: docs/reference/gdb.md.
 """
-import itertools
 import re
 
-from .causes import Causes, is_next, order_of
+from .causes import Causes, runs_of
 from .channels import LOAD, UNITS, Program
 from .core import ADDRESSES, BLOCK
 from .deciders import deciders
@@ -16,7 +15,7 @@ from .machine import OPERATING
 from .sources import sources
 
 CHANGES_TOLD, DEPTH_TOLD = b"10", b"5"
-MOST_DUMPED, MOST_DEPTH, MOST_CAUSES, MOST_TOLD = 1_048_576, 100, 1000, 1000
+MOST_DUMPED, MOST_DEPTH, MOST_TOLD = 1_048_576, 100, 1000
 NAMED_MARKS = (b"start", b"end", b"last")
 # The mnemonics of successive operation codes, from the one on that a row begins with; `-` is one that has none.
 ROWS_OF_MNEMONICS = {
@@ -36,10 +35,9 @@ MNEMONICS = {
 }
 # What the CPU does where it executes no instruction.
 NO_INSTRUCTION = "stopped|loading|interrupted|waits"
-# What is meant where a line with a place has no number behind it.
-# Lines about a place.
-ABOUT_A_PLACE = (b"who", b"why", b"changes", b"stores", b"readers", b"uses", b"count")
-MEANT = {b"changes": CHANGES_TOLD, b"stores": CHANGES_TOLD, b"readers": CHANGES_TOLD, b"uses": CHANGES_TOLD, b"why": DEPTH_TOLD}
+# Lines about a place; and what is meant where one has no number behind it.
+ABOUT_A_PLACE = (b"who", b"why", b"why!", b"changes", b"stores", b"readers", b"uses", b"count")
+MEANT = dict.fromkeys((b"changes", b"stores", b"readers", b"uses"), CHANGES_TOLD) | dict.fromkeys((b"why", b"why!"), DEPTH_TOLD)
 
 
 
@@ -50,22 +48,12 @@ def is_range(word):
 
 
 ITEM = {b"m": (UNIT, COUNT)}
-def runs_of(places):
-    """Places in their order, with successive bytes together."""
-    runs = []
-    for place in sorted(places, key=order_of):
-        if runs and is_next(runs[-1][-1], place):
-            runs[-1].append(place)
-        else:
-            runs.append([place])
-    return runs
-
 
 FORMS = {b"who": PLACES | ITEM, b"units": (), b"where": (), b"history": (COUNT,), b"jumps": (count_up_to(MOST_TOLD),)}
 FORMS |= {b"calls": ()}
 FORMS |= {b"goto": (lambda word: word in NAMED_MARKS or COUNT(word),)}
 FORMS |= {b"changes": {kind: (*form, COUNT) for kind, form in PLACES.items()}}
-FORMS |= {b"why": {kind: (*form, count_up_to(MOST_DEPTH)) for kind, form in PLACES.items()}}
+FORMS |= dict.fromkeys((b"why", b"why!"), {kind: (*form, count_up_to(MOST_DEPTH)) for kind, form in PLACES.items()})
 OF_AN_EXTENT = {kind: (*form, count_up_to(MOST_TOLD)) for kind, form in (PLACES | {b"s": (is_range,)}).items()}
 FORMS |= dict.fromkeys((b"stores", b"readers", b"uses"), OF_AN_EXTENT) | {b"count": PLACES | {b"s": (is_range,)}}
 FORMS |= {b"dump": (ADDRESS, count_up_to(MOST_DUMPED)), b"visits": (ADDRESS, count_up_to(MOST_TOLD))}
@@ -118,7 +106,8 @@ class Inquiries:
         if words[0] in ABOUT_A_PLACE and words[1] in (b"s", b"k") and int(words[2].split(b"-")[-1], 16) >= self.machine.size:
             return ["? argument 2"]
         stands = self.standing
-        answers = getattr(self, f"answer_{name}")(*rest)
+        detail = {"in_full": True} if name.endswith("!") else {}
+        answers = getattr(self, f"answer_{name.removesuffix('!')}")(*rest, **detail)
         if self.standing != stands:
             self.stood = stands
         return answers
@@ -271,12 +260,11 @@ class Inquiries:
         name = places[0] if places[0] == places[-1] else f"{places[0]}-{places[-1][1:]}"
         return f"{name} {self.run_of(places)}"
 
-    def answer_why(self, *words):
+    def answer_why(self, *words, in_full=False):
         place, stands = self.recording.place_of(*words[:-1]), self.standing
-        causes = Causes(self).lines(place, int(words[-1]))
-        lines = list(itertools.islice(causes, MOST_CAUSES + 1))
+        lines = Causes(self).lines(place, int(words[-1]), in_full)
         self.go_to(stands)
-        return lines if len(lines) <= MOST_CAUSES else [*lines[:MOST_CAUSES], "and more"]
+        return lines
 
     def answer_history(self, most):
         stands = self.standing

@@ -8,17 +8,21 @@ from .channels import UNITS, Program
 from .conditions import conditions_in, holds
 from .core import WORD
 from .debugger import MOST_PATCHED
+from .deciders import deciders
 from .inquiries import Inquiries
 from .lines import fault_of
 from .machine import OPERATING
 from .recording import Recording
 from .savings import Savings
+from .sources import sources
 
 MEMORY, ADDRESS, MALFORMED, FULL = b"E0c", b"E0e", b"E16", b"E1c"
 OK, TRAP, QUIET, INTERRUPT = b"OK", b"T05", b"T00", b"T02"
 BREAKPOINT = b"T05swbreak:;"
 RECORD_START, RECORD_END = b"T05replaylog:begin;", b"T05replaylog:end;"
 MOST_POINTS = 64
+# What a stop at a watched byte is told as: it was altered, read, or one of both.
+WATCH, READ_WATCH, ACCESS_WATCH = b"watch", b"rwatch", b"awatch"
 WORDS, LACKING = 18, 17 * 8 + 16 * 16
 NUMBER = rb"([0-9a-fA-F]{1,8})"
 TWO = NUMBER + rb"," + NUMBER
@@ -65,7 +69,8 @@ HELP = [
     *LINES,
     "who P: goes to just before the last change of a place, as `last` names places, and tells it",
     "who m U N: goes to just before the last change of an item of a unit's media, and tells it",
-    "why P, why P N: what made its value, and what that was made of, 5 or N changes deep",
+    "why P, why P N: which event stored its value, and what that was made of, 5 or N events deep",
+    "why! P, why! P N: the same in full, and what decided each event",
     "goto N, goto start, goto end, goto last: goes to just after change N, to either end, to where"
     " one stood before",
     "changes P, changes P N: the last 10 or N changes of a place",
@@ -252,9 +257,9 @@ class Target:
         self.breaks.pop(int(at, 16), None)
         return [OK]
 
-    def insert_watch(self, at, count):
-        watch = int(at, 16), int(count, 16)
-        if sum(watch) > self.machine.size:
+    def insert_watch(self, name, at, count):
+        watch = name, int(at, 16), int(count, 16)
+        if watch[1] + watch[2] > self.machine.size:
             return [ADDRESS]
         if watch not in self.watches:
             if len(self.watches) == MOST_POINTS:
@@ -262,8 +267,9 @@ class Target:
             self.watches.append(watch)
         return [OK]
 
-    def remove_watch(self, at, count):
-        self.watches = [watch for watch in self.watches if watch != (int(at, 16), int(count, 16))]
+    def remove_watch(self, name, at, count):
+        out = name, int(at, 16), int(count, 16)
+        self.watches = [watch for watch in self.watches if watch != out]
         return [OK]
 
     def is_at_breakpoint(self):
@@ -275,27 +281,48 @@ class Target:
     def is_to_stop(self, conditions):
         return not conditions or any(holds(one, self.words(), self.machine) for one in conditions)
 
-    def altered(self, change):
-        """The watched bytes that a change altered: the first of each watch that has none before."""
-        places, told = set(change.places), []
-        for at, count in self.watches:
-            run = range(at, at + count)
-            if not any(byte in run for byte in told):
-                told += [byte for byte in run if f"s{byte:06X}" in places][:1]
+    def met(self, change, reads):
+        """The watched bytes that a change altered, and then those that its event read or stored: the first of each
+        watch that has none before."""
+        altered, told = set(change.places), []
+        made_of, others, fetched = reads
+        read = set(others).union(*(made_of.get(place, [place]) for place in change.noted)) - fetched
+        met_by = [{WATCH: altered}, {READ_WATCH: read, ACCESS_WATCH: read.union(change.noted)}]
+        for places in met_by:
+            for name, at, count in self.watches:
+                run = range(at, at + count)
+                if not any(byte in run for _, byte in told):
+                    told += [(name, byte) for byte in run if f"s{byte:06X}" in places.get(name, ())][:1]
         return told
 
-    def tell_altered(self, change):
-        """The stop at a change of watched bytes, if it altered one. The others are told next."""
-        self.untold = self.altered(change)
+    def reads(self, event):
+        """What values are made of that an event puts, what decides it, and the instruction that it fetches, which is no reading."""
+        name, fields = event if isinstance(event, tuple) else (event, ())
+        if all(watch[0] == WATCH for watch in self.watches):
+            return {}, [], set()
+        fetched = self.instruction() if name == "cpu" else ()
+        return sources(self.machine, name, fields), deciders(self.machine, name), set(fetched)
+
+    def instruction(self):
+        """The bytes at the instruction address, as many as the instruction there has."""
+        at = self.words()[1]
+        if at >= self.machine.size:
+            return []
+        length = [2, 4, 4, 6][self.machine.run_of_bytes(at, 1)[0] >> 6]
+        return [f"s{byte:06X}" for byte in range(at, at + length)]
+
+    def tell_met(self, change, reads):
+        """The stop at watched bytes, if the change met one. The others are told next."""
+        self.untold = self.met(change, reads)
         return self.tell_untold()
 
     def tell_untold(self):
-        """The stop at an altered byte that gdb was not told of, if it watches one of them."""
-        self.untold = [at for at in self.untold if self.is_watched(at)]
-        return [b"T05watch:%x;" % self.untold.pop(0)] if self.untold else None
+        """The stop at a byte that was met and that gdb was not told of, if it watches one of them."""
+        self.untold = [(name, at) for name, at in self.untold if self.is_watched(at)]
+        return [b"T05%s:%x;" % self.untold.pop(0)] if self.untold else None
 
     def is_watched(self, at):
-        return any(first <= at < first + count for first, count in self.watches)
+        return any(first <= at < first + count for _, first, count in self.watches)
 
     # Going on and back.
 
@@ -336,17 +363,16 @@ class Target:
         """Runs the event whose turn it is, and answers why the machine pauses then, if it does."""
         recording = self.recording
         is_recorded = bool(recording.later)
-        if is_recorded:
-            recording.happen(recording.later[-1].event, recording.later[-1].act)
-        elif self.is_at_rest():
+        if not is_recorded and self.is_at_rest():
             return [said(self.why_idle(recording.changes[-1])), QUIET]
-        else:
-            recording.happen(*recording.offered())
+        event, act = recording.later[-1][:2] if is_recorded else recording.offered()
+        reads = self.reads(event)
+        recording.happen(event, act)
         change = recording.changes[-1]
-        if (answer := self.tell_altered(change)) is not None:
-            return answer
         if not is_recorded and not change.places:
             return [said(self.why_idle(change)), QUIET]
+        if (answer := self.tell_met(change, reads)) is not None:
+            return answer
         is_end = is_recorded and not recording.later
         stop = reached(change)
         if is_end and stop != BREAKPOINT:
@@ -380,7 +406,7 @@ class Target:
         while self.recording.changes:
             change = self.recording.changes[-1]
             self.recording.take_back()
-            if (answer := self.tell_altered(change)) is not None:
+            if (answer := self.tell_met(change, self.reads(change.event))) is not None:
                 return answer
             if (stop := reached(change)) is not None:
                 return [stop]
@@ -501,8 +527,12 @@ FORMS = [
     (b"R", b".*", Target.restart),
     (b"Z0,", TWO + CONDITIONS, Target.insert_break),
     (b"Z1,", TWO + CONDITIONS, Target.insert_break),
-    (b"Z2,", TWO, Target.insert_watch),
+    (b"Z2,", TWO, lambda target, *words: target.insert_watch(WATCH, *words)),
+    (b"Z3,", TWO, lambda target, *words: target.insert_watch(READ_WATCH, *words)),
+    (b"Z4,", TWO, lambda target, *words: target.insert_watch(ACCESS_WATCH, *words)),
     (b"z0,", TWO, Target.remove_break),
     (b"z1,", TWO, Target.remove_break),
-    (b"z2,", TWO, Target.remove_watch),
+    (b"z2,", TWO, lambda target, *words: target.remove_watch(WATCH, *words)),
+    (b"z3,", TWO, lambda target, *words: target.remove_watch(READ_WATCH, *words)),
+    (b"z4,", TWO, lambda target, *words: target.remove_watch(ACCESS_WATCH, *words)),
 ]

@@ -7,7 +7,7 @@ run in `tests` prints the trace of what a script does to the second machine; `tr
 import argparse
 import pathlib
 
-from .causes import is_next, named, order_of
+from .causes import named, order_of, runs_of
 from .channels import LOAD, UNITS, Program
 from .core import ADDRESSES, SIZE
 from .devices import CARD
@@ -84,13 +84,7 @@ class Trace:
 
 def extents(places):
     """Places in their order, each once, and of successive bytes the first and the last."""
-    runs = []
-    for place in sorted(set(places), key=order_of):
-        if runs and is_next(runs[-1][-1], place):
-            runs[-1].append(place)
-        else:
-            runs.append([place])
-    names = (f"{named(run[0])}{f'-{named(run[-1])[1:]}' if run[1:] else ''}" for run in runs)
+    names = (f"{named(run[0])}{f'-{named(run[-1])[1:]}' if run[1:] else ''}" for run in runs_of(places))
     return " ".join(names)
 
 

@@ -61,10 +61,3 @@ end
 define target hook-record-btrace
   s360-refuse The machine keeps a record by itself: go back by reverse-stepi and reverse-continue.
 end
-
-define hook-rwatch
-  s360-refuse There are no watches of reads: use watch, which stops at each change.
-end
-define hook-awatch
-  s360-refuse There are no watches of reads: use watch, which stops at each change.
-end

@@ -24,6 +24,8 @@ UNITS = ("00C", "00D", "00E", "01F", "180", "181")
 # What is asked of the printer.
 PRINTED = re.compile(r"line (?P<line>\d+) column (?P<column>\d+)(?: page (?P<page>\d+))?")
 SUPERVISOR_CALL = re.compile(r"svc\s+\w.*")
+# Of a store the place, or the first byte.
+STORED = re.compile(r"^s([0-9A-F]{6})", re.MULTILINE)
 MARK = re.compile(r"[A-Za-z_]\w*")
 COUNT = re.compile(r"\$_change\b")
 
@@ -70,17 +72,18 @@ Said again it goes one change further back. `goto last` goes back to where it st
 
 
 class Why(Command):
-    """Tell what made the value of a place, and what that was made of.
-Usage: why EXPRESSION [DEPTH]
+    """Tell what made the value of a place, and what that was made of, the nearest first.
+Usage: why[!] EXPRESSION [DEPTH]
 
-Five changes deep, or as many as told. Of a field its byte is meant that changed last."""
+Five events deep, or as many as told. Of a field the first byte is meant that was stored
+last. `why!` tells each in full, and what decided it."""
 
     def carry_out(self, words: str) -> None:
-        expression, depth = with_count(words)
-        places = places_of(expression)
-        changes = changes_of(places, 1) if len(places) > 1 else []
-        place = next(p for p in places if not changes or p.replace(" ", "") in changes[-1].places)
-        show(told(f"why {place} {FOLLOWED if depth is None else depth}"))
+        expression, depth = with_count(words.removeprefix("!").lstrip())
+        first, *_, last = (places := places_of(expression)) * 2
+        stored = STORED.search(told(f"stores {first}-{last.partition(' ')[2]} 1")) if len(places) > 1 else None
+        place = f"s {stored[1]}" if stored else first
+        show(told(f"why{'!' * words.startswith('!')} {place} {FOLLOWED if depth is None else depth}"))
 
 
 class Changes(Command):

@@ -8,10 +8,10 @@ use Rattle.s360_language.specs.Names.{place_name}
 use Rattle.s360_language.proofs.ShownLemmas.{pushed}
 use Rattle.s360_inquiry.specs.declared.call.Call.{Call}
 use Rattle.s360_inquiry.specs.declared.calling.OpenCall.{OpenCall}
-use Rattle.s360_inquiry.specs.declared.why.Telling.{Telling}
+use Rattle.s360_inquiry.specs.declared.telling.Telling.{Telling}
 use Rattle.s360_inquiry.specs.Calls.{calls_after_change, line_of_call, link_place, open_calls, outside_of, overwritten_words, returning_words, told_open_calls, value_words_of}
-use Rattle.s360_inquiry.specs.Causes.{IsTold, told_lines}
-use Rattle.s360_inquiry.proofs.WhyLemmas.{told-full}
+use Rattle.s360_inquiry.specs.Tellings.{IsTold, told_lines}
+use Rattle.s360_inquiry.proofs.TellingLemmas.{told-full}
 
 -- the last of the first calls is the first from the other end
 last-first : (cs : List Call) (m : ℕ) (d : Call) → 0 < m → m ≤ length cs → reverse (take m cs) ≡ get_or cs (m - 1) d ∷ reverse (take (m - 1) cs)

@@ -7,4 +7,8 @@ pub mod ExecutedLemmas
 pub mod CallLemmas
 pub mod SearchLemmas
 pub mod JumpLemmas
+pub mod TellingLemmas
+pub mod FittingLemmas
 pub mod WhyLemmas
+pub mod GatheringLemmas
+pub mod ChainLemmas

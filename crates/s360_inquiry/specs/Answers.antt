@@ -43,7 +43,7 @@ is_outside s place = false
 
 abbrev pub asks_outside : Storage → Inquiry → Bool
 asks_outside s (Who place) = is_outside s place
-asks_outside s (Why place depth) = is_outside s place
+asks_outside s (Why place depth detail) = is_outside s place
 asks_outside s (Changes place most) = is_outside s place
 asks_outside s (Stores extent most) = is_outside s (last_place extent)
 asks_outside s (Readers extent most) = is_outside s (last_place extent)
@@ -53,7 +53,7 @@ asks_outside s inquiry = false
 unfoldable pub told_answer : Inquired → Inquiry → List ℕ
 told_answer i (Who place) = who_text i.recorded place (last_change_in i.recorded place)
 told_answer i (WhoItem unit item) = who_item_text i.recorded unit item (last_change_of_item i.recorded unit item)
-told_answer i (Why place depth) = why_text i.recorded place depth
+told_answer i (Why place depth detail) = why_text i.recorded place depth detail
 told_answer i (Goto mark) = goto_text i.recorded (goto_number i.recorded i.stood mark)
 told_answer i (Changes place most) = changes_text i.recorded place most
 told_answer i (Stores extent most) = stores_text i.recorded extent most

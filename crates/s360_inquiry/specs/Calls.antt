@@ -30,7 +30,7 @@ use Rattle.s360_inquiry.specs.declared.calling.OpenCall.{OpenCall}
 use Rattle.s360_inquiry.specs.declared.call.Link.{Link}
 use Rattle.s360_inquiry.specs.declared.executed.Executed.{Executed}
 use Rattle.s360_inquiry.specs.declared.call.Link.TheVariants.{Register, OldPsw}
-use Rattle.s360_inquiry.specs.Causes.{told_lines}
+use Rattle.s360_inquiry.specs.Tellings.{told_lines}
 use Rattle.s360_inquiry.specs.Changes.{kind_of_change, machine_after, words_of_change}
 use Rattle.s360_inquiry.specs.Executed.{executed}
 

@@ -1,50 +1,38 @@
--- The chain of causes of a value (own profile): the change that made it, the places that its event was decided by, those that it
--- made the value of, with the values that they had, and so on with each of these.
-use Rattle.std.specs.Prelude.{◌≡◌, ℕ, zero, suc, ◌+◌, nat_lt, if◌then◌else◌, Option, Some, None, List, [], ◌∷◌, ◌++◌, codes, length, map, min, take}
-use Rattle.std.specs.Prelude.{flat_map, fold, unwrap_or}
+-- The chain of causes of a value (own profile): the event that stored it last, what that made it of, and so on, the nearest first.
+use Rattle.std.specs.Prelude.{◌≡◌, ℕ, zero, suc, ◌+◌, ◌-◌, Bool, ◌&&◌, nat_eq, nat_lt, if◌then◌else◌, Option, Some, None, List, [], ◌∷◌, ◌++◌, codes}
+use Rattle.std.specs.Prelude.{flat_map, fold, length, map, min, slice_get}
 use Rattle.std.specs.BTreeSet.{insert_key}
+use Rattle.std.specs.List.{list_any}
+use Rattle.std.specs.Option.{option_map_or}
 use Rattle.std.specs.declared.cmp.Ordering.{Ordering}
 use Rattle.std.specs.declared.cmp.Ordering.TheVariants.{Less, Greater}
 use Rattle.std.specs.Ordering.{match_ordering, nat_cmp}
-use Rattle.s360_model.specs.Text.{decimal}
+use Rattle.s360_text.specs.Counts.{counted}
 use Rattle.s360_store.specs.declared.place.Place.{Place}
 use Rattle.s360_store.specs.declared.place.Place.TheVariants.{Psw}
 use Rattle.s360_store.specs.Order.{kind_of, number_of}
-use Rattle.s360_machine.specs.declared.event.Event.{Event}
+use Rattle.s360_machine.specs.declared.event.Event.{Event as MachineEvent}
 use Rattle.s360_machine.specs.Machine.{Machine}
-use Rattle.s360_journal.specs.Running.{next_event}
 use Rattle.s360_journal.specs.Standing.{machine_of}
-use Rattle.s360_journal.specs.Recorded.{Recorded, next_recorded, session_of, with_standing}
+use Rattle.s360_journal.specs.Recorded.{Recorded, session_of, with_standing}
 use Rattle.s360_footprint.specs.EventRows.{deciders, sources}
 use Rattle.s360_inquiry.specs.declared.cause.Cause.{Cause}
-use Rattle.s360_inquiry.specs.declared.cause.Making.{Making}
-use Rattle.s360_inquiry.specs.declared.cause.Origin.{Origin}
-use Rattle.s360_inquiry.specs.declared.cause.Origin.TheVariants.{NotFollowed, Start, Change}
 use Rattle.s360_inquiry.specs.declared.extent.Extent.{Extent}
-use Rattle.s360_inquiry.specs.declared.extent.Extent.TheVariants.{Place as Alone}
-use Rattle.s360_inquiry.specs.declared.why.Telling.{Telling}
-use Rattle.s360_inquiry.specs.Changes.{just_before, last_change_in, words_of_change}
-use Rattle.s360_inquiry.specs.Extents.{first_place, places_of_extent, extent_name, extent_of, extent_words, extents_of}
+use Rattle.s360_inquiry.specs.declared.inquiry.Detail.{Detail}
+use Rattle.s360_inquiry.specs.declared.inquiry.Detail.TheVariants.{Brief, Full}
+use Rattle.s360_inquiry.specs.declared.making.LastStore.{LastStore}
+use Rattle.s360_inquiry.specs.declared.making.Making.{Making}
+use Rattle.s360_inquiry.specs.declared.node.Node.{Node}
+use Rattle.s360_inquiry.specs.declared.origin.Origin.{Origin}
+use Rattle.s360_inquiry.specs.declared.telling.Telling.{Telling}
+use Rattle.s360_inquiry.specs.declared.origin.Origin.TheVariants.{NotFollowed, Start, Event}
+use Rattle.s360_inquiry.specs.Changes.{event_next, just_before, last_change_in, machine_after, words_of_change}
+use Rattle.s360_inquiry.specs.Extents.{extent_name, extent_of, extent_words, places_of_extent, same_extent}
+use Rattle.s360_inquiry.specs.Fitting.{fitted}
+use Rattle.s360_inquiry.specs.Origins.{cause_items, causes_from, last_store, origin_in, sourced}
+use Rattle.s360_inquiry.specs.Tellings.{IsTold, most_lines, told_lines}
 
--- the last change that stands, or none: then it has its value from the start
-abbrev pub origin_of_change : Option ℕ → Origin
-origin_of_change None = Start
-origin_of_change (Some number) = Change number
-
-abbrev pub origin_of : Recorded → Place → Origin
-origin_of r place = origin_of_change (last_change_in r place)
-
--- the PSW is told and not followed: each instruction alters it
-abbrev pub origin_in : Recorded → Extent → Origin
-origin_in r (Alone Psw) = NotFollowed
-origin_in r extent = origin_of r (first_place extent)
-
--- an extent with the value that it has, and what made that
-abbrev pub cause_with : Recorded → Extent → Origin → Cause
-cause_with r extent origin = record { extent = extent; value = extent_words (machine_of (session_of r)) extent; origin = origin }
-
-abbrev pub cause_in : Recorded → Extent → Cause
-cause_in r extent = cause_with r extent (origin_in r extent)
+-- ---- what an event made an extent of, and what decided the event
 
 -- two places by their kind, and within a kind by their number
 abbrev pub order_of : Place → Place → Ordering
@@ -55,109 +43,137 @@ abbrev pub with_places : List Place → List Place → List Place
 with_places places more = fold (insert_key order_of) places more
 
 -- the places that an event makes those of an extent of; and those that decide the event
-unfoldable pub places_before : Machine → Event → Extent → List Place
+unfoldable pub places_before : Machine → MachineEvent → Extent → List Place
 places_before m e extent = with_places [] (flat_map (sources m e) (places_of_extent extent))
 
-unfoldable pub places_deciding : Machine → Event → List Place
+unfoldable pub places_deciding : Machine → MachineEvent → List Place
 places_deciding m e = with_places [] (deciders m e)
 
--- the event that comes next in a record
-abbrev pub event_next : Recorded → Event
-event_next r = unwrap_or (next_recorded r) (next_event (machine_of (session_of r)))
+-- those of the next event of a record, and of the event of a number
+abbrev pub sources_next : Recorded → Extent → List Place
+sources_next r extent = places_before (machine_of (session_of r)) (event_next r) extent
 
--- what an event makes an extent of; what the next one does; and what the change of a number has made it of
-abbrev pub causes_by : Recorded → Event → Extent → List Cause
-causes_by r e extent = map (cause_in r) (extents_of r (places_before (machine_of (session_of r)) e extent))
+abbrev pub sources_of : Recorded → ℕ → Extent → List Place
+sources_of r number extent = sources_next (just_before r number) extent
 
-abbrev pub causes_next : Recorded → Extent → List Cause
-causes_next r extent = causes_by r (event_next r) extent
-
+-- with where they come from, as it stood before the event
 abbrev pub causes_of : Recorded → ℕ → Extent → List Cause
-causes_of r number extent = causes_next (just_before r number) extent
+causes_of r number extent = causes_from (map (sourced (origin_in (just_before r number))) (sources_of r number extent))
 
--- a decider has the number of its last change, if one made it; the PSW has its value
-abbrev pub decider_words : Recorded → Extent → Origin → List ℕ
-decider_words r extent NotFollowed = extent_words (machine_of (session_of r)) extent
-decider_words r extent Start = []
-decider_words r extent (Change number) = codes " (" ++ decimal number ++ codes ")"
+-- a decider comes from the last change of it, and is told with that change's number, if one made it; the PSW with its value
+abbrev pub origin_by_change : Option ℕ → Origin
+origin_by_change None = Start
+origin_by_change (Some number) = Event number
 
--- after its name
-abbrev pub named_decider : Recorded → Extent → List ℕ
-named_decider r extent = codes " " ++ extent_name extent ++ decider_words r extent (origin_in r extent)
+abbrev pub decider_origin : Recorded → Place → Origin
+decider_origin r Psw = NotFollowed
+decider_origin r place = origin_by_change (last_change_in r place)
 
--- what decides an event; the next one; and what decided the change of a number
-abbrev pub decided_by : Recorded → Event → List ℕ
-decided_by r e = flat_map (named_decider r) (extents_of r (places_deciding (machine_of (session_of r)) e))
+abbrev pub decider_words : Recorded → Cause → Origin → List ℕ
+decider_words r c NotFollowed = extent_words (machine_of (session_of r)) c.extent
+decider_words r c (Event number) = counted (codes " (") number ++ codes ")"
+decider_words r c origin = []
 
-abbrev pub decided_next : Recorded → List ℕ
-decided_next r = decided_by r (event_next r)
+abbrev pub decider_item : Recorded → Cause → List ℕ
+decider_item r c = codes " " ++ extent_name c.extent ++ decider_words r c c.origin
 
-abbrev pub decided_words : Recorded → ℕ → List ℕ
-decided_words r number = decided_next (just_before r number)
+abbrev pub deciders_next : Recorded → List (List ℕ)
+deciders_next r =
+    map (decider_item r) (causes_from (map (sourced (decider_origin r)) (places_deciding (machine_of (session_of r)) (event_next r))))
 
--- two blanks further in at each level
-abbrev pub indent : ℕ → List ℕ
-indent zero = []
-indent (suc level) = codes "  " ++ indent level
+abbrev pub deciders_of : Recorded → ℕ → List (List ℕ)
+deciders_of r number = deciders_next (just_before r number)
 
-abbrev pub cause_line : ℕ → Cause → List ℕ → List ℕ
-cause_line level c made = indent level ++ extent_name c.extent ++ c.value ++ made ++ codes "\n"
+-- ---- the lines of a node: its event, what that made with its value, and of what; in full also what decided the event
 
--- the line of what decided a change, if anything did
-abbrev pub decided_line : ℕ → List ℕ → List ℕ
-decided_line level words = indent level ++ codes "decided by" ++ words ++ codes "\n"
+abbrev pub node_head : Recorded → ℕ → Extent → List ℕ
+node_head r number extent = words_of_change r number ++ codes ": " ++ extent_name extent ++ extent_words (machine_after r number) extent
 
-abbrev pub decided_lines : ℕ → List ℕ → List (List ℕ)
-decided_lines level [] = []
-decided_lines level (w ∷ ws) = decided_line level (w ∷ ws) ∷ []
+abbrev pub brief_line : List ℕ → List (List ℕ) → List ℕ
+brief_line head items = (head ++ fitted (length head) items) ++ codes "\n"
 
--- the lines of a cause: its own, and so deep that of what decided its change, and those of what that has made it of
-abbrev pub cause_lines : ℕ → ℕ → Recorded → Cause → Origin → List (List ℕ)
-cause_lines level depth r c NotFollowed = cause_line level c [] ∷ []
-cause_lines level depth r c Start = cause_line level c (codes " from the start") ∷ []
-cause_lines level zero r c (Change number) = cause_line level c (codes " by " ++ decimal number) ∷ []
-cause_lines level (suc depth) r c (Change number) =
-    cause_line level c (codes " by " ++ words_of_change r number)
-    ∷ (decided_lines (level + 1) (decided_words r number)
-    ++ flat_map (λ (x : Cause). cause_lines (level + 1) depth r x x.origin) (causes_of r number c.extent))
+abbrev pub full_line : List ℕ → List (List ℕ) → List ℕ
+full_line head items = (head ++ flat_map (λ item. item) items) ++ codes "\n"
 
--- what was noted of a change: that change in words, what decided it, and what it made an extent of
-pub record IsMaking (r : Recorded) (m : Making) : Type 0 where
-  pub words : m.words ≡ words_of_change r m.number
-  pub decided : m.decided ≡ decided_words r m.number
-  pub causes : m.causes.items ≡ causes_of r m.number m.extent
+abbrev pub decided_line : List (List ℕ) → List ℕ
+decided_line [] = []
+decided_line (item ∷ items) = full_line (codes "  decided by") (item ∷ items)
 
--- it was noted of the change that made a cause's value
-pub record IsOf (c : Cause) (m : Making) : Type 0 where
-  pub number : c.origin ≡ Change m.number
-  pub extent : c.extent ≡ m.extent
+abbrev pub lines_in : Detail → List ℕ → List (List ℕ) → List (List ℕ) → List ℕ
+lines_in Brief head causes deciders = brief_line head causes
+lines_in Full head causes deciders = full_line head causes ++ decided_line deciders
 
--- so many lines are told at most
-abbrev pub most_lines : ℕ
-most_lines = 1000
+abbrev pub node_text : Recorded → Detail → ℕ → Extent → List ℕ
+node_text r detail number extent = lines_in detail (node_head r number extent) (cause_items (causes_of r number extent)) (deciders_of r number)
 
-abbrev pub first_lines : List (List ℕ) → List ℕ
-first_lines lines = flat_map (λ line. line) (take most_lines lines)
+-- ---- the chain: each node once, the nearest first
 
-abbrev pub told_lines : List (List ℕ) → List ℕ
-told_lines lines = first_lines lines ++ (if nat_lt most_lines (length lines) then codes "and more\n" else [])
+-- an event made a cause: then that is a node, which is told so deep
+abbrev pub node_from : ℕ → Extent → Origin → List Node
+node_from depth extent (Event number) = record { number = number; extent = extent; depth = depth } ∷ []
+node_from depth extent origin = []
 
--- lines that are told so far, and how many there are, of which one beyond is the last that is counted
-pub record IsTold (lines : List (List ℕ)) (t : Telling) : Type 0 where
-  pub text : t.text ≡ first_lines lines
-  pub count : t.lines ≡ min (length lines) (most_lines + 1)
+abbrev pub node_of : ℕ → Cause → List Node
+node_of depth c = node_from depth c.extent c.origin
 
--- the lines of a cause at this level, followed so deep, are told after those before
-abbrev pub TellsCause : Recorded → Cause → ℕ → ℕ → Telling → Telling → Type 0
-TellsCause r c level depth old new = (lines : List (List ℕ)) → IsTold lines old → IsTold (lines ++ cause_lines level depth r c c.origin) new
+abbrev pub nodes_of : ℕ → List Cause → List Node
+nodes_of depth causes = if nat_lt 1 depth then flat_map (node_of (depth - 1)) causes else []
 
--- why a place has its value. It is followed, whatever place it is
-abbrev pub first_cause : Recorded → Place → Cause
-first_cause r place = cause_with r (extent_of place) (origin_of r place)
+abbrev pub is_node : Node → Node → Bool
+is_node one other = nat_eq one.number other.number && same_extent one.extent other.extent
+
+-- nodes are put behind those that are known, each once
+abbrev pub with_node : List Node → Node → List Node
+with_node known node = if list_any (is_node node) known then known else known ++ node ∷ []
+
+abbrev pub with_nodes : List Node → List Node → List Node
+with_nodes known more = fold with_node known more
+
+-- those that are known once a node is told, and those below it, one level less deep, are known too
+abbrev pub known_after : Recorded → List Node → ℕ → Extent → ℕ → List Node
+known_after r known number extent depth = with_nodes known (nodes_of depth (causes_of r number extent))
+
+-- the texts of nodes, so many at most. Of those that are known the first so many are told: the next is told, and those below it are known then
+abbrev pub node_texts : ℕ → Recorded → Detail → List Node → ℕ → List (List ℕ)
+node_texts zero r detail known told = []
+node_texts (suc left) r detail known told =
+    option_map_or
+    (λ (node : Node). node_text r detail node.number node.extent ∷ node_texts left r detail (known_after r known node.number node.extent node.depth) (told + 1))
+    (slice_get known told) []
+
+-- a node is told behind other lines
+abbrev pub TellsNode : Recorded → Detail → ℕ → Extent → Telling → Telling → Type 0
+TellsNode r detail number extent t u = (lines : List (List ℕ)) → IsTold lines t → IsTold (lines ++ node_text r detail number extent ∷ []) u
+
+-- so many of the nodes that are known are told, and with those that are told still they are the whole chain
+abbrev pub IsChain : Recorded → Detail → Node → List Node → ℕ → Telling → Type 0
+IsChain r detail first known told t =
+    (lines : List (List ℕ))
+    × IsTold lines t
+    × (lines ++ node_texts (most_lines + 1 - told) r detail known told ≡ node_texts (most_lines + 1) r detail (first ∷ []) 0)
 
 -- so deep is a chain followed at most
 abbrev pub most_depth : ℕ
 most_depth = 100
 
-abbrev pub why_text : Recorded → Place → ℕ → List ℕ
-why_text r place depth = told_lines (cause_lines 0 (min depth most_depth) (with_standing r 0) (first_cause r place) (origin_of r place))
+-- the place that is asked for is followed whatever place it is; one that no event stored into is as at the start
+abbrev pub why_text_from : Recorded → Place → ℕ → Detail → Option ℕ → List ℕ
+why_text_from r place depth detail None =
+    extent_name (extent_of place) ++ extent_words (machine_of (session_of r)) (extent_of place) ++ codes " from the start\n"
+why_text_from r place depth detail (Some number) =
+    told_lines (node_texts (most_lines + 1) (with_standing r 0) detail (record { number = number; extent = extent_of place; depth = depth } ∷ []) 0)
+
+abbrev pub why_text : Recorded → Place → ℕ → Detail → List ℕ
+why_text r place depth detail = why_text_from r place (min depth most_depth) detail (last_store r place)
+
+-- ---- what was noted of a recording
+
+-- of an event and an extent that it made: the head of its line, the places that it was made of, and the event's deciders
+pub record IsMaking (r : Recorded) (m : Making) : Type 0 where
+  pub head : m.head ≡ node_head r m.number m.extent
+  pub places : m.places.items ≡ sources_of r m.number m.extent
+  pub deciders : m.deciders.items ≡ deciders_of r m.number
+
+-- of a place and a moment: where its value came from
+abbrev pub IsStore : Recorded → LastStore → Type 0
+IsStore r s = s.origin ≡ origin_in (with_standing r s.moment) s.place

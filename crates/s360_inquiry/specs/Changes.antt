@@ -1,13 +1,15 @@
 -- The changes of a place (own profile): each is told by its number and its event, and by the place with its value before
 -- and after.
-use Rattle.std.specs.Prelude.{ℕ, ◌-◌, nat_lt, if◌then◌else◌, Option, Some, None, List, [], ◌∷◌, ◌++◌, codes, drop, length, min, flat_map}
+use Rattle.std.specs.Prelude.{ℕ, ◌-◌, nat_lt, if◌then◌else◌, Option, Some, None, List, [], ◌∷◌, ◌++◌, codes, drop, length, min, flat_map, unwrap_or}
 use Rattle.s360_model.specs.Text.{decimal}
 use Rattle.s360_store.specs.declared.place.Place.{Place}
+use Rattle.s360_machine.specs.declared.event.Event.{Event}
 use Rattle.s360_machine.specs.declared.event_kind.EventKind.{EventKind}
 use Rattle.s360_machine.specs.Machine.{Machine, seen}
 use Rattle.s360_journal.specs.Rerun.{changes_of, last_change_of}
 use Rattle.s360_journal.specs.Standing.{last_kind_of, machine_of}
-use Rattle.s360_journal.specs.Recorded.{Recorded, session_of, standing_events, with_standing}
+use Rattle.s360_journal.specs.Running.{next_event}
+use Rattle.s360_journal.specs.Recorded.{Recorded, next_recorded, session_of, standing_events, with_standing}
 use Rattle.s360_language.specs.Names.{place_name}
 use Rattle.s360_language.specs.Values.{value_words}
 use Rattle.s360_inquiry.specs.Happenings.{happening_words}
@@ -15,6 +17,10 @@ use Rattle.s360_inquiry.specs.Happenings.{happening_words}
 -- a record of which the changes before that of a number stand
 abbrev pub just_before : Recorded → ℕ → Recorded
 just_before r number = with_standing r (min (number - 1) (length r.events))
+
+-- the event that comes next in a record
+abbrev pub event_next : Recorded → Event
+event_next r = unwrap_or (next_recorded r) (next_event (machine_of (session_of r)))
 
 -- the machine just after the change of a number, and what that change's event is
 abbrev pub machine_after : Recorded → ℕ → Machine

@@ -15,7 +15,6 @@ use Rattle.s360_machine.specs.declared.event_kind.EventKind.TheVariants.{Cpu}
 use Rattle.s360_machine.specs.Cpu.{cpu_case}
 use Rattle.s360_machine.specs.Machine.{Machine}
 use Rattle.s360_journal.specs.Recorded.{Recorded}
-use Rattle.s360_inquiry.specs.declared.executed.Executed.{Executed}
 use Rattle.s360_inquiry.specs.Changes.{kind_of_change, machine_after, words_of_change}
 use Rattle.s360_inquiry.specs.Executed.{executed, operation_of}
 use Rattle.s360_inquiry.specs.Searches.{last_up_to}

@@ -1,18 +1,18 @@
--- Places that are told together: successive bytes that one change made last, or a place alone (own profile).
-use Rattle.std.specs.Prelude.{ℕ, ◌+◌, ◌-◌, Bool, true, false, ◌&&◌, nat_eq, nat_lt, if◌then◌else◌, Option, Some, None, List, [], ◌∷◌, ◌++◌, codes, length, min}
+-- Places that are told together: successive bytes, or a place alone (own profile).
+use Rattle.std.specs.Prelude.{ℕ, ◌+◌, ◌-◌, Bool, false, ◌&&◌, nat_eq, nat_le, nat_lt, if◌then◌else◌, Option, Some, None, List, [], ◌∷◌, ◌++◌}
+use Rattle.std.specs.Prelude.{codes, length, min}
 use Rattle.std.specs.List.{slice_range}
 use Rattle.s360_model.specs.Storage.{Storage}
 use Rattle.s360_model.specs.Text.{hex_bytes, hex_text}
 use Rattle.s360_store.specs.declared.place.Place.{Place}
 use Rattle.s360_store.specs.declared.place.Place.TheVariants.{Byte}
+use Rattle.s360_store.specs.Places.{same_place}
 use Rattle.s360_store.specs.Spans.{byte_places}
 use Rattle.s360_machine.specs.Machine.{Machine}
-use Rattle.s360_journal.specs.Recorded.{Recorded}
 use Rattle.s360_language.specs.Names.{place_name}
 use Rattle.s360_language.specs.Values.{value_words}
 use Rattle.s360_inquiry.specs.declared.extent.Extent.{Extent}
 use Rattle.s360_inquiry.specs.declared.extent.Extent.TheVariants.{Bytes, Place as Alone}
-use Rattle.s360_inquiry.specs.Changes.{last_change_in}
 
 -- that of a place alone, the first place of one, the last, and all its places
 abbrev pub extent_of : Place → Extent
@@ -31,32 +31,35 @@ abbrev pub places_of_extent : Extent → List Place
 places_of_extent (Bytes first last) = byte_places first (last + 1 - first)
 places_of_extent (Alone place) = place ∷ []
 
--- the same change, or none
-abbrev pub same_change : Option ℕ → Option ℕ → Bool
-same_change (Some a) (Some b) = nat_eq a b
-same_change None None = true
-same_change a b = false
+-- a place is one of an extent
+abbrev pub is_in : Extent → Place → Bool
+is_in (Bytes first last) (Byte at) = nat_le first at && nat_le at last
+is_in (Alone p) q = same_place p q
+is_in extent q = false
 
--- a byte goes together with the run that begins behind it, if one change made both last, or none made either
-abbrev pub is_joined : Recorded → ℕ → ℕ → Bool
-is_joined r at first = nat_eq (at + 1) first && same_change (last_change_in r (Byte at)) (last_change_in r (Byte first))
+-- both are one
+abbrev pub same_extent : Extent → Extent → Bool
+same_extent (Bytes first last) (Bytes begin end) = nat_eq first begin && nat_eq last end
+same_extent (Alone p) (Alone q) = same_place p q
+same_extent one other = false
 
-abbrev pub joined : Recorded → Place → Extent → Option Extent
-joined r (Byte at) (Bytes first last) = if is_joined r at first then Some (Bytes at last) else None
-joined r place next = None
+-- a byte together with the run that begins behind it
+abbrev pub extent_with : Place → Extent → Option Extent
+extent_with (Byte at) (Bytes first last) = if nat_eq (at + 1) first then Some (Bytes at last) else None
+extent_with place next = None
 
+-- successive bytes together, in their order
 abbrev pub put_before : Place → Option Extent → Extent → List Extent → List Extent
 put_before place (Some together) next extents = together ∷ extents
 put_before place None next extents = extent_of place ∷ (next ∷ extents)
 
-abbrev pub with_place : Recorded → Place → List Extent → List Extent
-with_place r place [] = extent_of place ∷ []
-with_place r place (next ∷ extents) = put_before place (joined r place next) next extents
+abbrev pub with_run : Place → List Extent → List Extent
+with_run place [] = extent_of place ∷ []
+with_run place (next ∷ extents) = put_before place (extent_with place next) next extents
 
--- the extents of some places, in their order
-abbrev pub extents_of : Recorded → List Place → List Extent
-extents_of r [] = []
-extents_of r (p ∷ ps) = with_place r p (extents_of r ps)
+abbrev pub runs_of : List Place → List Extent
+runs_of [] = []
+runs_of (p ∷ ps) = with_run p (runs_of ps)
 
 -- the name of an extent: of several bytes the first address and the last
 abbrev pub extent_name : Extent → List ℕ

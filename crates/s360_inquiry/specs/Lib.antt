@@ -13,10 +13,14 @@ pub mod Interruptions
 pub mod ItemChanges
 pub mod Extents
 pub mod Counts
-pub mod Causes
 pub mod Stores
 pub mod Readers
 pub mod Sought
+pub mod Tellings
+pub mod Fitting
+pub mod Origins
+pub mod Causes
+pub mod Gatherings
 pub mod Calls
 pub mod Situations
 pub mod Answers

@@ -1,21 +1,19 @@
 -- Events that read places since the last store there, and what they made of them (own profile). An event reads a place that it is decided by, or that
 -- it makes a value of; the footprint has which these are.
-use Rattle.std.specs.Prelude.{ℕ, ◌+◌, ◌-◌, Bool, true, false, ◌||◌, nat_eq, if◌then◌else◌, Option, Some, None, List, [], ◌∷◌, ◌++◌, codes, flat_map}
+use Rattle.std.specs.Prelude.{ℕ, ◌-◌, Bool, true, false, ◌||◌, if◌then◌else◌, List, [], ◌∷◌, ◌++◌, codes, flat_map}
 use Rattle.std.specs.List.{list_any}
 use Rattle.s360_store.specs.declared.place.Place.{Place}
-use Rattle.s360_store.specs.declared.place.Place.TheVariants.{Byte}
 use Rattle.s360_machine.specs.declared.event.Event.{Event}
 use Rattle.s360_machine.specs.Machine.{Machine}
 use Rattle.s360_journal.specs.Standing.{machine_of}
 use Rattle.s360_journal.specs.Recorded.{Recorded, session_of, with_standing}
 use Rattle.s360_footprint.specs.EventRows.{deciders, sources}
 use Rattle.s360_inquiry.specs.declared.extent.Extent.{Extent}
-use Rattle.s360_inquiry.specs.declared.extent.Extent.TheVariants.{Bytes}
-use Rattle.s360_inquiry.specs.Causes.{event_next, with_places}
-use Rattle.s360_inquiry.specs.Changes.{just_before, last_of, words_of_change}
-use Rattle.s360_inquiry.specs.Extents.{extent_name, extent_of, extent_words, put_before}
+use Rattle.s360_inquiry.specs.Causes.{with_places}
+use Rattle.s360_inquiry.specs.Changes.{event_next, just_before, last_of, words_of_change}
+use Rattle.s360_inquiry.specs.Extents.{extent_name, extent_words, is_in, runs_of}
 use Rattle.s360_inquiry.specs.Searches.{numbers_since}
-use Rattle.s360_inquiry.specs.Stores.{is_in, just_after, stored_by, stores_into}
+use Rattle.s360_inquiry.specs.Stores.{just_after, stored_by, stores_into}
 
 -- ---- which events read there
 
@@ -49,19 +47,6 @@ abbrev pub reads_from : Extent → Recorded → ℕ → Bool
 reads_from extent r number = reads_next extent (with_standing r (number - 1))
 
 -- ---- the lines of a reader: its event; and what it made of the extent, with the value after it, or that it was decided by it
-
--- successive bytes together
-abbrev pub adjoined : Place → Extent → Option Extent
-adjoined (Byte at) (Bytes first last) = if nat_eq (at + 1) first then Some (Bytes at last) else None
-adjoined p next = None
-
-abbrev pub with_run : Place → List Extent → List Extent
-with_run p [] = extent_of p ∷ []
-with_run p (next ∷ extents) = put_before p (adjoined p next) next extents
-
-abbrev pub runs_of : List Place → List Extent
-runs_of [] = []
-runs_of (p ∷ ps) = with_run p (runs_of ps)
 
 abbrev pub made_next : Extent → Recorded → List Extent
 made_next extent r = runs_of (made_by (machine_of (session_of r)) (event_next r) extent)

@@ -12,6 +12,7 @@ use Rattle.s360_inquiry.specs.Changes.{most_told}
 use Rattle.s360_inquiry.specs.Extents.{extent_of}
 use Rattle.s360_inquiry.specs.declared.extent.Extent.{Extent}
 use Rattle.s360_inquiry.specs.declared.extent.Extent.TheVariants.{Bytes}
+use Rattle.s360_inquiry.specs.declared.inquiry.Detail.TheVariants.{Brief, Full}
 use Rattle.s360_inquiry.specs.declared.inquiry.Inquiry.{Inquiry}
 use Rattle.s360_inquiry.specs.declared.inquiry.Inquiry.TheVariants.{Who, WhoItem, Why, Goto, Changes, Stores, Readers, Count, History, Visits, Jumps, Calls}
 use Rattle.s360_inquiry.specs.declared.inquiry.Inquiry.TheVariants.{SupervisorCalls, Dump, DumpItem, Units, Where}
@@ -75,7 +76,8 @@ call_or other =
 abbrev pub inquiries : List (Line Inquiry)
 inquiries =
     line (codes "who") (item_or (λ u n. WhoItem u n) (part places (λ place. makes (Who place)))) ∷
-    line (codes "why") (part places (λ place. may_take (count_of most_depth) depth_told (λ depth. makes (Why place depth)))) ∷
+    line (codes "why") (part places (λ place. may_take (count_of most_depth) depth_told (λ depth. makes (Why place depth Brief)))) ∷
+    line (codes "why!") (part places (λ place. may_take (count_of most_depth) depth_told (λ depth. makes (Why place depth Full)))) ∷
     line (codes "goto") (one mark_of (λ mark. Goto mark)) ∷
     line (codes "changes") (part places (λ place. may_take (count_of most_count) changes_told (λ most. makes (Changes place most)))) ∷
     line (codes "stores") (extent_then (λ extent. may_take (count_of most_told) changes_told (λ most. makes (Stores extent most)))) ∷

@@ -1,11 +1,10 @@
 -- The stores into places (own profile): the events that store there, also where the value stays.
-use Rattle.std.specs.Prelude.{ℕ, ◌-◌, Bool, false, ◌&&◌, nat_eq, nat_le, if◌then◌else◌, Option, Some, None, is_some}
-use Rattle.std.specs.Prelude.{List, [], ◌∷◌, ◌++◌, codes, flat_map, length, max, min}
+use Rattle.std.specs.Prelude.{ℕ, ◌-◌, Bool, false, nat_eq, if◌then◌else◌, Option, Some, None, is_some, List, [], ◌∷◌, ◌++◌, codes, flat_map}
+use Rattle.std.specs.Prelude.{length, max, min}
 use Rattle.std.specs.List.{list_any}
 use Rattle.std.specs.Option.{option_map_or}
 use Rattle.s360_store.specs.declared.place.Place.{Place}
 use Rattle.s360_store.specs.declared.place.Place.TheVariants.{Byte}
-use Rattle.s360_store.specs.Places.{same_place}
 use Rattle.s360_machine.specs.declared.event.Event.{Event}
 use Rattle.s360_machine.specs.declared.refusal.Refusal.{Refusal}
 use Rattle.s360_machine.specs.Machine.{Machine, storage_size}
@@ -14,19 +13,12 @@ use Rattle.s360_journal.specs.Standing.{machine_of}
 use Rattle.s360_journal.specs.Recorded.{Recorded, session_of, with_standing}
 use Rattle.s360_footprint.specs.EventRows.{stored}
 use Rattle.s360_inquiry.specs.declared.extent.Extent.{Extent}
-use Rattle.s360_inquiry.specs.declared.extent.Extent.TheVariants.{Bytes, Place as Alone}
-use Rattle.s360_inquiry.specs.Causes.{event_next}
-use Rattle.s360_inquiry.specs.Changes.{just_before, last_change_in, last_of, words_of_change}
-use Rattle.s360_inquiry.specs.Extents.{extent_name, extent_of, extent_words, places_of_extent}
+use Rattle.s360_inquiry.specs.declared.extent.Extent.TheVariants.{Bytes}
+use Rattle.s360_inquiry.specs.Changes.{event_next, just_before, last_change_in, last_of, words_of_change}
+use Rattle.s360_inquiry.specs.Extents.{extent_name, is_in, extent_of, extent_words, places_of_extent}
 use Rattle.s360_inquiry.specs.Searches.{numbers_up_to}
 
 -- ---- which events store there
-
--- a place is one of an extent
-abbrev pub is_in : Extent → Place → Bool
-is_in (Bytes first last) (Byte at) = nat_le first at && nat_le at last
-is_in (Alone p) q = same_place p q
-is_in extent q = false
 
 -- the bytes from the first to the last of some places, or one place
 abbrev pub spanned : Place → Option Extent → Extent
@@ -46,9 +38,12 @@ stored_unless (Some refusal) places = []
 abbrev pub stored_by : Machine → Event → List Place
 stored_by m e = stored_unless (refusal_of (storage_size m) e) (stored m e)
 
--- what the next event of a record stores in an extent
-unfoldable pub span_stored : Extent → Recorded → Option Extent
-span_stored extent r = span_in extent (stored_by (machine_of (session_of r)) (event_next r))
+-- where the next event of a record stores, and what it stores in an extent
+unfoldable pub stored_next : Recorded → List Place
+stored_next r = stored_by (machine_of (session_of r)) (event_next r)
+
+abbrev pub span_stored : Extent → Recorded → Option Extent
+span_stored extent r = span_in extent (stored_next r)
 
 -- the event of a change stores there
 abbrev pub stores_into : Extent → Recorded → ℕ → Bool

@@ -104,7 +104,11 @@ fn told_answer(
     match inquiry {
         Inquiry::Who(place) => answer_who(alloc, recording, place),
         Inquiry::WhoItem { unit, number } => answer_who_item(alloc, recording, unit, number),
-        Inquiry::Why { place, depth } => answer_why(alloc, recording, place, depth),
+        Inquiry::Why {
+            place,
+            depth,
+            detail,
+        } => answer_why(alloc, recording, place, depth, detail),
         Inquiry::Goto(mark) => answer_goto(alloc, recording, stood, mark),
         Inquiry::Changes { place, most } => answer_changes(alloc, recording, place, most),
         Inquiry::Stores { extent, most } => answer_stores(alloc, recording, extent, most),

@@ -2,12 +2,12 @@
 ghost use Rattle.std.specs.Prelude.{◌≡◌, ◌++◌, ◌∷◌, [], IfOk, List, OnErr, OnOk, map, reverse, ℕ};
 ghost use Rattle.s360_journal.specs.Recorded.{with_standing};
 ghost use Rattle.s360_inquiry.specs.Calls.{calls_text, line_of_call, open_call, open_calls, told_open_calls};
-ghost use Rattle.s360_inquiry.specs.Causes.{IsTold};
+ghost use Rattle.s360_inquiry.specs.Tellings.{IsTold};
 
 use crate::call::{Call, go_on, link_value, push_returning};
 use crate::change::{go_before, push_event_of};
 use crate::going::go_to;
-use crate::why::Telling;
+use crate::telling::Telling;
 use s360_debug::text_of_line;
 use s360_journal::Session;
 use s360_text::Text;

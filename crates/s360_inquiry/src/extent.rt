@@ -1,11 +1,10 @@
-//! Places that are told together: successive bytes that one change made last, or a place alone.
+//! Places that are told together: successive bytes, or a place alone.
 ghost use Rattle.std.specs.Prelude.{◌≡◌, ◌+◌, ◌-◌, ◌++◌, IfOk, OnOk, reverse};
 ghost use Rattle.s360_store.specs.Spans.{byte_places};
 ghost use Rattle.s360_machine.specs.Machine.{seen};
-ghost use Rattle.s360_inquiry.specs.Extents.{extent_name, extent_of, extent_words, extents_of, first_place, joined};
-ghost use Rattle.s360_inquiry.specs.Extents.{is_joined, last_place, places_of_extent, put_before, run_words_of, same_change, with_place};
+ghost use Rattle.s360_inquiry.specs.Extents.{extent_name, extent_of, extent_with, extent_words, first_place, is_in, last_place};
+ghost use Rattle.s360_inquiry.specs.Extents.{places_of_extent, run_words_of, runs_of, same_extent, with_run};
 
-use s360_journal::Session;
 use s360_language::{push_digits, push_place, push_value};
 use s360_machine::Machine;
 use s360_store::{Place, Storage};
@@ -35,6 +34,34 @@ impl Extent {
                 last: at,
             },
             place => Extent::Place(place),
+        }
+    }
+
+    /// Whether both are one.
+    pub(crate) fn is(self, other: Extent) -> bool
+        ensures { result ≡ same_extent self other }
+    {
+        match (self, other) {
+            (
+                Extent::Bytes { first, last },
+                Extent::Bytes {
+                    first: begin,
+                    last: end,
+                },
+            ) => first == begin && last == end,
+            (Extent::Place(one), Extent::Place(other)) => one.is(other),
+            _ => false,
+        }
+    }
+
+    /// Whether a place is one of it.
+    pub(crate) fn has(self, place: Place) -> bool
+        ensures { result ≡ is_in self place }
+    {
+        match (self, place) {
+            (Extent::Bytes { first, last }, Place::Byte(at)) => first <= at && at <= last,
+            (Extent::Place(one), place) => one.is(place),
+            _ => false,
         }
     }
 
@@ -83,88 +110,46 @@ fn push_bytes(places: &mut Vec<Place>, first: u32, last: u32) -> Result<(), Allo
     Ok(())
 }
 
-/// Whether both are the same change, or none.
-fn same_change(one: Option<u32>, other: Option<u32>) -> bool
-    ensures { result ≡ same_change one other }
-{
-    match (one, other) {
-        (Some(one), Some(other)) => one == other,
-        (None, None) => true,
-        _ => false,
-    }
-}
-
-/// Whether a byte goes together with the run that begins behind it.
-fn is_joined(recording: &Session, at: u32, first: u32) -> bool
-    ensures { result ≡ is_joined recording.now at first }
-{
-    at.checked_add(1) == Some(first)
-        && same_change(
-            recording.last_change(Place::Byte(at)),
-            recording.last_change(Place::Byte(first)),
-        )
-}
-
-/// A byte with the run that begins behind it, if they go together.
-fn joined(recording: &Session, place: Place, next: Extent) -> Option<Extent>
-    ensures { result ≡ joined recording.now place next }
+/// A byte together with the run that begins behind it.
+pub(crate) fn extent_with(place: Place, next: Extent) -> Option<Extent>
+    ensures { result ≡ extent_with place next }
 {
     match (place, next) {
-        (Place::Byte(at), Extent::Bytes { first, last }) if is_joined(recording, at, first) => {
+        (Place::Byte(at), Extent::Bytes { first, last }) if at.checked_add(1) == Some(first) => {
             Some(Extent::Bytes { first: at, last })
         }
         _ => None,
     }
 }
 
-/// Puts a place before extents, which are listed from the last one on.
-fn put_before(
-    recording: &Session,
-    extents: &mut Vec<Extent>,
-    place: Place,
-) -> Result<(), AllocError>
-    ensures { OnOk result (reverse extents.new.items ≡ with_place recording.now place (reverse extents.old.items)) }
+/// Puts a place before runs, which are listed from the last one on.
+fn put_before(runs: &mut Vec<Extent>, place: Place) -> Result<(), AllocError>
+    ensures { OnOk result (reverse runs.new.items ≡ with_run place (reverse runs.old.items)) }
 {
-    let Some(next) = extents.pop() else {
-        extents.push(Extent::of(place))?;
+    let Some(next) = runs.pop() else {
+        runs.push(Extent::of(place))?;
         return Ok(());
     };
-    push_joined(extents, place, joined(recording, place, next), next)
-}
-
-/// Adds a place before the next extent to extents that are listed from the last one on: both together, if they are.
-pub(crate) fn push_joined(
-    extents: &mut Vec<Extent>,
-    place: Place,
-    together: Option<Extent>,
-    next: Extent,
-) -> Result<(), AllocError>
-    ensures { OnOk result (reverse extents.new.items ≡ put_before place together next (reverse extents.old.items)) }
-{
-    match together {
-        Some(together) => extents.push(together)?,
+    match extent_with(place, next) {
+        Some(run) => runs.push(run)?,
         None => {
-            extents.push(next)?;
-            extents.push(Extent::of(place))?;
+            runs.push(next)?;
+            runs.push(Extent::of(place))?;
         }
     }
     Ok(())
 }
 
-/// The extents of some places, in their order, by the changes that stand.
-pub(crate) fn extents_of(
-    alloc: Global,
-    recording: &Session,
-    places: &[Place],
-) -> Result<Vec<Extent>, AllocError>
-    ensures { IfOk result (λ extents. extents.items ≡ extents_of recording.now places.now) }
+/// Places as extents, in their order: successive bytes are one. The one error is want of memory.
+pub fn runs_of(alloc: Global, places: &[Place]) -> Result<Vec<Extent>, AllocError>
+    ensures { IfOk result (λ runs. runs.items ≡ runs_of places.now) }
 {
-    let mut extents = Vec::new(alloc);
+    let mut runs = Vec::new(alloc);
     for index in (0..places.len()).rev() {
-        put_before(recording, &mut extents, places[index])?;
+        put_before(&mut runs, places[index])?;
     }
-    extents.reverse();
-    Ok(extents)
+    runs.reverse();
+    Ok(runs)
 }
 
 /// Adds the name of an extent: of several bytes the first address and the last.

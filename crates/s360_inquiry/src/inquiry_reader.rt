@@ -12,7 +12,7 @@ ghost use Rattle.s360_inquiry.specs.Reading.{mark_of, most_dumped};
 
 use crate::change::MOST_TOLD;
 use crate::extent::Extent;
-use crate::inquiry::{Inquiry, Mark};
+use crate::inquiry::{Detail, Inquiry, Mark};
 use crate::why::MOST_DEPTH;
 use s360_language::{
     LineFault, MOST_COUNT, Words, address_in, count_in, finish, if_known, next_place,
@@ -45,7 +45,8 @@ fn read_words(mut words: Words<'_>) -> Result<Inquiry, LineFault>
 {
     read_line! { words, 0, finish, LineFault::Unknown;
         "who" [read_who(words)];
-        "why" (place: [next_place], depth: count_in(MOST_DEPTH) or DEPTH) => Inquiry::Why { place, depth };
+        "why" (place: [next_place], depth: count_in(MOST_DEPTH) or DEPTH) => Inquiry::Why { place, depth, detail: Detail::Brief };
+        "why!" (place: [next_place], depth: count_in(MOST_DEPTH) or DEPTH) => Inquiry::Why { place, depth, detail: Detail::Full };
         "goto" (mark: mark_in) => Inquiry::Goto(mark);
         "changes" (place: [next_place], most: count_in(MOST_COUNT) or CHANGES) => Inquiry::Changes { place, most };
         "stores" [read_stores(words)];

@@ -5,7 +5,7 @@ ghost use Rattle.s360_inquiry.specs.Causes.{places_before, places_deciding, with
 
 use crate::extent::{Extent, places_of};
 use s360_machine::{Event, Machine};
-use s360_source::{deciders, sources};
+use s360_source::Footprint;
 use s360_store::Place;
 use std::alloc::{AllocError, Global};
 use std::collections::BTreeSet;
@@ -21,8 +21,9 @@ pub(crate) fn places_before(
     ensures { IfOk result (λ places. places.items ≡ places_before (seen machine.now.whole) event.now extent) }
 {
     let mut places = BTreeSet::new(alloc);
+    let footprint = Footprint::new(alloc, machine, event)?;
     for place in places_of(alloc, extent)?.iter() {
-        let sources = sources(alloc, machine, event, *place)?;
+        let sources = footprint.sources(alloc, *place)?;
         insert_each(&mut places, sources.as_slice())?;
     }
     list_of(alloc, &places)
@@ -37,7 +38,7 @@ pub(crate) fn places_deciding(
 ) -> Result<Vec<Place>, AllocError>
     ensures { IfOk result (λ places. places.items ≡ places_deciding (seen machine.now.whole) event.now) }
 {
-    let deciders = deciders(alloc, machine, event)?;
+    let deciders = Footprint::new(alloc, machine, event)?.deciders(alloc)?;
     in_order(alloc, deciders.as_slice())
 }
 

@@ -1,22 +1,22 @@
 //! The events that read places since the last store there, and what they made of them.
-ghost use Rattle.std.specs.Prelude.{◌≡◌, ◌++◌, IfOk, OnErr, OnOk, reverse};
+ghost use Rattle.std.specs.Prelude.{◌≡◌, ◌++◌, IfOk, OnErr, OnOk};
 ghost use Rattle.s360_machine.specs.Machine.{seen};
 ghost use Rattle.s360_journal.specs.Recorded.{with_standing};
 ghost use Rattle.s360_inquiry.specs.Changes.{just_before};
-ghost use Rattle.s360_inquiry.specs.Readers.{adjoined, has_some, is_decided_by, is_made_of, made_among, made_by, made_line, made_lines, made_next};
-ghost use Rattle.s360_inquiry.specs.Readers.{reader_text, readers_text, reads_next, runs_of, told_readers, with_run};
+ghost use Rattle.s360_inquiry.specs.Readers.{has_some, is_decided_by, is_made_of, made_among, made_by, made_line, made_lines, made_next};
+ghost use Rattle.s360_inquiry.specs.Readers.{reader_text, readers_text, reads_next, told_readers};
 ghost use Rattle.s360_inquiry.specs.Stores.{just_after};
 
 use crate::change::{go_before, push_event_of};
-use crate::extent::{Extent, push_extent, push_joined, push_words};
+use crate::extent::{Extent, push_extent, push_words, runs_of};
 use crate::going::go_to;
 use crate::place_set::{insert_each, list_of};
 use crate::search::{Sought, last_numbers};
-use crate::storing::{is_in, stored_by};
+use crate::storing::stored_by;
 use s360_debug::text_of_line;
 use s360_journal::Session;
-use s360_machine::{Event, Machine};
-use s360_source::{deciders, sources};
+use s360_machine::Machine;
+use s360_source::Footprint;
 use s360_store::Place;
 use s360_text::Text;
 use std::alloc::{AllocError, Global};
@@ -25,31 +25,29 @@ use std::collections::BTreeSet;
 /// Whether what stands at a place after an event was made of an extent.
 fn is_made_of(
     alloc: Global,
-    machine: &Machine,
-    event: &Event,
+    footprint: &Footprint<'_>,
     extent: Extent,
     place: Place,
 ) -> Result<bool, AllocError>
-    ensures { IfOk result (λ made. made ≡ is_made_of (seen machine.now.whole) event.now extent place) }
+    ensures { IfOk result (λ made. made ≡ is_made_of footprint.now.machine footprint.now.event extent place) }
 {
-    let sources = sources(alloc, machine, event, place)?;
-    Ok(sources.iter().any(|source| is_in(extent, *source)))
+    let sources = footprint.sources(alloc, place)?;
+    Ok(sources.iter().any(|source| extent.has(*source)))
 }
 
 /// Those of some places that an event makes of an extent, in their order, each once.
 fn made_among(
     alloc: Global,
-    machine: &Machine,
-    event: &Event,
+    footprint: &Footprint<'_>,
     extent: Extent,
     places: &[Place],
 ) -> Result<Vec<Place>, AllocError>
-    ensures { IfOk result (λ made. made.items ≡ made_among (seen machine.now.whole) event.now extent places.now) }
+    ensures { IfOk result (λ made. made.items ≡ made_among footprint.now.machine footprint.now.event extent places.now) }
 {
     let mut made = BTreeSet::new(alloc);
     for index in (0..places.len()).rev() {
         let place = places[index];
-        if is_made_of(alloc, machine, event, extent, place)? {
+        if is_made_of(alloc, footprint, extent, place)? {
             insert_each(&mut made, &[place])?;
         }
     }
@@ -61,28 +59,26 @@ fn made_among(
 #[tactic(auto, unfolding(crate::specs::Readers::made_by))]
 fn made_by(
     alloc: Global,
-    machine: &Machine,
-    event: &Event,
+    footprint: &Footprint<'_>,
     extent: Extent,
 ) -> Result<Vec<Place>, AllocError>
-    ensures { IfOk result (λ made. made.items ≡ made_by (seen machine.now.whole) event.now extent) }
+    ensures { IfOk result (λ made. made.items ≡ made_by footprint.now.machine footprint.now.event extent) }
 {
-    let stored = stored_by(alloc, machine, event)?;
-    let made = made_among(alloc, machine, event, extent, stored.as_slice())?;
+    let stored = stored_by(alloc, footprint)?;
+    let made = made_among(alloc, footprint, extent, stored.as_slice())?;
     Ok(made)
 }
 
 /// Whether an event is decided by an extent.
 fn is_decided_by(
     alloc: Global,
-    machine: &Machine,
-    event: &Event,
+    footprint: &Footprint<'_>,
     extent: Extent,
 ) -> Result<bool, AllocError>
-    ensures { IfOk result (λ decided. decided ≡ is_decided_by (seen machine.now.whole) event.now extent) }
+    ensures { IfOk result (λ decided. decided ≡ is_decided_by footprint.now.machine footprint.now.event extent) }
 {
-    let deciders = deciders(alloc, machine, event)?;
-    Ok(deciders.iter().any(|decider| is_in(extent, *decider)))
+    let deciders = footprint.deciders(alloc)?;
+    Ok(deciders.iter().any(|decider| extent.has(*decider)))
 }
 
 /// Whether there are places.
@@ -105,46 +101,12 @@ pub(crate) fn reads_next(
     ensures { IfOk result (λ reads. reads ≡ reads_next extent recording.now) }
 {
     let event = recording.next_event()?;
-    if is_decided_by(alloc, recording.machine(), &event, extent)? {
+    let footprint = Footprint::new(alloc, recording.machine(), &event)?;
+    if is_decided_by(alloc, &footprint, extent)? {
         return Ok(true);
     }
-    let made = made_by(alloc, recording.machine(), &event, extent)?;
+    let made = made_by(alloc, &footprint, extent)?;
     Ok(has_some(made.as_slice()))
-}
-
-/// A byte with the run that begins behind it.
-fn adjoined(place: Place, next: Extent) -> Option<Extent>
-    ensures { result ≡ adjoined place next }
-{
-    match (place, next) {
-        (Place::Byte(at), Extent::Bytes { first, last }) if at.checked_add(1) == Some(first) => {
-            Some(Extent::Bytes { first: at, last })
-        }
-        _ => None,
-    }
-}
-
-/// Puts a place before extents, which are listed from the last one on.
-fn put_run_before(extents: &mut Vec<Extent>, place: Place) -> Result<(), AllocError>
-    ensures { OnOk result (reverse extents.new.items ≡ with_run place (reverse extents.old.items)) }
-{
-    let Some(next) = extents.pop() else {
-        extents.push(Extent::of(place))?;
-        return Ok(());
-    };
-    push_joined(extents, place, adjoined(place, next), next)
-}
-
-/// Places as extents, in their order: successive bytes are one. The one error is want of memory.
-pub fn runs_of(alloc: Global, places: &[Place]) -> Result<Vec<Extent>, AllocError>
-    ensures { IfOk result (λ extents. extents.items ≡ runs_of places.now) }
-{
-    let mut extents = Vec::new(alloc);
-    for index in (0..places.len()).rev() {
-        put_run_before(&mut extents, places[index])?;
-    }
-    extents.reverse();
-    Ok(extents)
 }
 
 /// What the next event of the record makes of an extent.
@@ -152,7 +114,8 @@ fn made_next(alloc: Global, recording: &Session, extent: Extent) -> Result<Vec<E
     ensures { IfOk result (λ made. made.items ≡ made_next extent recording.now) }
 {
     let event = recording.next_event()?;
-    let made = made_by(alloc, recording.machine(), &event, extent)?;
+    let footprint = Footprint::new(alloc, recording.machine(), &event)?;
+    let made = made_by(alloc, &footprint, extent)?;
     runs_of(alloc, made.as_slice())
 }
 

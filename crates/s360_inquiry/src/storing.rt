@@ -3,8 +3,8 @@ ghost use Rattle.std.specs.Prelude.{◌≡◌, ◌++◌, IfOk, OnErr, OnOk};
 ghost use Rattle.s360_machine.specs.Machine.{seen};
 ghost use Rattle.s360_journal.specs.Recorded.{with_standing};
 ghost use Rattle.s360_inquiry.specs.Changes.{just_before};
-ghost use Rattle.s360_inquiry.specs.Stores.{is_altered, is_in, is_last_change, span_in, span_line, span_line_if, span_stored, spanned};
-ghost use Rattle.s360_inquiry.specs.Stores.{store_text, stored_by, stores_text, told_stores};
+ghost use Rattle.s360_inquiry.specs.Stores.{is_altered, is_last_change, span_in, span_line, span_line_if, span_stored, spanned};
+ghost use Rattle.s360_inquiry.specs.Stores.{store_text, stored_by, stored_next, stores_text, told_stores};
 
 use crate::change::{go_before, push_event_of};
 use crate::extent::{Extent, places_of, push_extent, push_words};
@@ -12,22 +12,11 @@ use crate::going::go_to;
 use crate::search::{Sought, last_numbers};
 use s360_debug::text_of_line;
 use s360_journal::Session;
-use s360_machine::{Event, Machine};
-use s360_source::stored;
+use s360_machine::Machine;
+use s360_source::Footprint;
 use s360_store::{GREATEST_SIZE, Place};
 use s360_text::Text;
 use std::alloc::{AllocError, Global};
-
-/// Whether a place is one of an extent.
-pub(crate) fn is_in(extent: Extent, place: Place) -> bool
-    ensures { result ≡ is_in extent place }
-{
-    match (extent, place) {
-        (Extent::Bytes { first, last }, Place::Byte(at)) => first <= at && at <= last,
-        (Extent::Place(one), place) => one.is(place),
-        _ => false,
-    }
-}
 
 /// A place with the span behind it, if there is one: the bytes from the first to the last.
 fn spanned(place: Place, span: Option<Extent>) -> Extent
@@ -43,13 +32,13 @@ fn spanned(place: Place, span: Option<Extent>) -> Extent
 }
 
 /// The span of those of the places that are in an extent.
-fn span_in(extent: Extent, places: &[Place]) -> Option<Extent>
+pub(crate) fn span_in(extent: Extent, places: &[Place]) -> Option<Extent>
     ensures { result ≡ span_in extent places.now }
 {
     let mut span = None;
     for index in (0..places.len()).rev() {
         let place = places[index];
-        if is_in(extent, place) {
+        if extent.has(place) {
             span = Some(spanned(place, span));
         }
     }
@@ -58,19 +47,28 @@ fn span_in(extent: Extent, places: &[Place]) -> Option<Extent>
 
 /// The places that an event stores into in the machine that meets it; none if it is refused. A place may be there more than once.
 /// The one error is want of memory.
-pub fn stored_by(alloc: Global, machine: &Machine, event: &Event) -> Result<Vec<Place>, AllocError>
-    ensures { IfOk result (λ places. places.items ≡ stored_by (seen machine.now.whole) event.now) }
+pub fn stored_by(alloc: Global, footprint: &Footprint<'_>) -> Result<Vec<Place>, AllocError>
+    ensures { IfOk result (λ places. places.items ≡ stored_by footprint.now.machine footprint.now.event) }
 {
+    let machine = footprint.machine();
     // So the bytes of a patch that is not refused have addresses of 32 bits.
     prove!(machine.storage().size() <= GREATEST_SIZE);
-    match machine.refusal(event) {
+    match machine.refusal(footprint.event()) {
         Some(_) => Ok(Vec::new(alloc)),
-        None => stored(alloc, machine, event),
+        None => footprint.stored(alloc),
     }
 }
 
+/// The places that the next event of the record stores into.
+#[tactic(auto, unfolding(crate::specs::Stores::stored_next))]
+pub(crate) fn stored_next(alloc: Global, recording: &Session) -> Result<Vec<Place>, AllocError>
+    ensures { IfOk result (λ places. places.items ≡ stored_next recording.now) }
+{
+    let event = recording.next_event()?;
+    stored_by(alloc, &Footprint::new(alloc, recording.machine(), &event)?)
+}
+
 /// What the next event of the record stores in an extent.
-#[tactic(auto, unfolding(crate::specs::Stores::span_stored))]
 pub(crate) fn span_stored(
     alloc: Global,
     recording: &Session,
@@ -78,8 +76,7 @@ pub(crate) fn span_stored(
 ) -> Result<Option<Extent>, AllocError>
     ensures { IfOk result (λ span. span ≡ span_stored extent recording.now) }
 {
-    let event = recording.next_event()?;
-    let places = stored_by(alloc, recording.machine(), &event)?;
+    let places = stored_next(alloc, recording)?;
     Ok(span_in(extent, places.as_slice()))
 }
 

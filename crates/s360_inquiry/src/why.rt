@@ -1,308 +1,206 @@
-//! Why a place has its value: the chain of causes. The recording goes back once, from each change that is followed to the next
-//! before it, and notes what it made; then the chain is told.
-ghost use Rattle.std.specs.Prelude.{◌≡◌, ◌≤◌, ◌<◌, ◌+◌, ◌++◌, ◌∷◌, ◌↔◌, [], All, IfOk, IfSome, List};
-ghost use Rattle.std.specs.Prelude.{OnErr, OnOk, codes, ℕ};
-ghost use Rattle.std.specs.Bool.{IsTrue};
-ghost use Rattle.std.specs.List.{IsAmong};
-ghost use Rattle.s360_model.specs.Text.{decimal};
+//! Why a place has its value: the chain of causes, each event once, the nearest first. The recording goes back once and notes what
+//! the chain is told from.
+ghost use Rattle.std.specs.Prelude.{◌≡◌, ◌≤◌, ◌+◌, ◌++◌, ◌∷◌, All, IfOk, OnErr, OnOk, None, length, [], ℕ};
 ghost use Rattle.s360_journal.specs.Recorded.{with_standing};
-ghost use Rattle.s360_inquiry.specs.Causes.{IsMaking, IsOf, IsTold, TellsCause, cause_line, decided_line, decided_lines};
-ghost use Rattle.s360_inquiry.specs.Causes.{indent, told_lines, why_text};
+ghost use Rattle.s360_inquiry.specs.Causes.{IsMaking, IsStore, TellsNode, causes_of, decided_line, known_after, lines_in, node_texts};
+ghost use Rattle.s360_inquiry.specs.Causes.{why_text, why_text_from};
+ghost use Rattle.s360_inquiry.specs.Origins.{cause_items, origin_in};
+ghost use Rattle.s360_inquiry.specs.Tellings.{most_lines, told_lines};
 
-use crate::cause::{Cause, Making, Origin, first_cause, making_of};
-use crate::extent::{Extent, push_extent};
+use crate::cause::{Cause, Sourced, cause_items, causes_from};
+use crate::extent::{Extent, push_extent, push_words};
+use crate::fitting::{push_brief, push_full};
+use crate::gathering::gather;
 use crate::going::go_to;
+use crate::inquiry::Detail;
+use crate::making::{LastStore, Making, making_of, noted_making, noted_store};
+use crate::node::{Node, push_nodes};
+use crate::origin::{Origin, find_origin};
+use crate::search::{Sought, last_number};
+use crate::telling::{MOST_LINES, Telling};
 use s360_journal::Session;
 use s360_store::Place;
 use s360_text::Text;
 use std::alloc::{AllocError, Global};
-use std::collections::BinaryHeap;
 
 /// So deep is a chain followed at most.
 pub(crate) const MOST_DEPTH: u32 = 100;
 
-/// So many lines are told at most.
-const MOST_LINES: usize = 1000;
-
-/// Lines that are told, at most so many, and how many there are; no more are counted than one beyond these.
-#[derive(Drop)]
-pub(crate) struct Telling {
-    text: Text,
-    lines: usize,
-}
-
-impl Telling {
-    /// No line is told yet.
-    pub(crate) fn new(alloc: Global) -> Telling
-        ensures text { result.text ≡ [] }
-        ensures lines { result.lines ≡ 0 }
-    {
-        Telling {
-            text: Text::new(alloc),
-            lines: 0,
-        }
-    }
-
-    /// Whether no further line would be told or counted.
-    pub(crate) fn is_full(&self) -> bool
-        ensures { IsTrue result ↔ (1000 < self.now.lines) }
-    {
-        self.lines > MOST_LINES
-    }
-
-    /// Adds a line, if one more may be told or counted.
-    pub(crate) fn push(&mut self, line: &[u8]) -> Result<(), AllocError>
-        ensures { OnOk result ((lines : List (List ℕ)) → IsTold lines self.old → IsTold (lines ++ line.now ∷ []) self.new) }
-    {
-        if self.is_full() {
-            return Ok(());
-        }
-        if self.lines < MOST_LINES {
-            self.text.push_bytes(line)?;
-        }
-        self.lines += 1;
-        Ok(())
-    }
-
-    /// Adds the line of a cause, and what made it.
-    fn push_cause(
-        &mut self,
-        alloc: Global,
-        level: u32,
-        cause: &Cause,
-        made: &[u8],
-    ) -> Result<(), AllocError>
-        ensures { OnOk result ((lines : List (List ℕ)) → IsTold lines self.old → IsTold (lines ++ cause_line level cause.now made.now ∷ []) self.new) }
-    {
-        let mut line = Text::new(alloc);
-        push_line(&mut line, level, cause, made)?;
-        self.push(line.as_bytes())
-    }
-
-    /// Adds the line of what decided a change, if anything did.
-    fn push_decided(&mut self, alloc: Global, level: u32, decided: &[u8]) -> Result<(), AllocError>
-        ensures { OnOk result ((lines : List (List ℕ)) → IsTold lines self.old → IsTold (lines ++ decided_lines level decided.now) self.new) }
-    {
-        if decided.is_empty() {
-            return Ok(());
-        }
-        let mut line = Text::new(alloc);
-        push_decided_line(&mut line, level, decided)?;
-        self.push(line.as_bytes())
-    }
-
-    /// The text, and that there is more if there is.
-    pub(crate) fn finish(mut self) -> Result<Text, AllocError>
-        ensures { IfOk result (λ text. (lines : List (List ℕ)) → IsTold lines self → text ≡ told_lines lines) }
-    {
-        if self.is_full() {
-            self.text.push_text("and more\n")?;
-        }
-        Ok(self.text)
-    }
-}
-
-/// Adds the line of a cause, and what made it.
-fn push_line(text: &mut Text, level: u32, cause: &Cause, made: &[u8]) -> Result<(), AllocError>
-    ensures { OnOk result (text.new ≡ text.old ++ cause_line level cause.now made.now) }
-{
-    push_indent(text, level)?;
-    push_extent(text, cause.extent)?;
-    text.push_bytes(cause.value.as_bytes())?;
-    text.push_bytes(made)?;
-    text.push_text("\n")?;
-    Ok(())
-}
-
-/// Adds the line of what decided a change.
-fn push_decided_line(text: &mut Text, level: u32, decided: &[u8]) -> Result<(), AllocError>
-    ensures { OnOk result (text.new ≡ text.old ++ decided_line level decided.now) }
-{
-    push_indent(text, level)?;
-    text.push_text("decided by")?;
-    text.push_bytes(decided)?;
-    text.push_text("\n")?;
-    Ok(())
-}
-
-/// Goes two blanks further in at each level.
-fn push_indent(text: &mut Text, level: u32) -> Result<(), AllocError>
-    ensures { OnOk result (text.new ≡ text.old ++ indent level) }
-{
-    for _level in 0..level {
-        text.push_text("  ")?;
-    }
-    Ok(())
-}
-
-/// What was noted of a change and an extent.
-fn noted(makings: &[Making], number: u32, extent: Extent) -> Option<&Making>
-    ensures among { IfSome result (λ making. IsAmong makings.now making.now) }
-    ensures number { IfSome result (λ making. making.now.number ≡ number) }
-    ensures extent { IfSome result (λ making. making.now.extent ≡ extent) }
-{
-    makings.iter().find(|making| making.number == number && making.extent == extent)
-}
-
-/// What a chain is told from.
+/// What a chain is told from, and in which detail. What was not noted is looked for when it is told.
 #[derive(Clone, Copy)]
 struct Chain<'a> {
     alloc: Global,
-    /// What was noted of changes.
     makings: &'a [Making],
+    stores: &'a [LastStore],
+    detail: Detail,
 }
 
 impl Chain<'_> {
-    /// Tells a cause, and so deep what decided its change and what that made it of, while lines may be told. What was not noted of
-    /// a change is looked at now. The recording is left at some change.
-    #[cycle(telling)]
-    fn tell(
+    /// Where the value that a place had at a moment came from.
+    fn origin_at(
         self,
         recording: &mut Session,
-        telling: &mut Telling,
-        level: u32,
-        depth: u32,
-        cause: &Cause,
-    ) -> Result<(), AllocError>
-        requires makings { All (IsMaking (with_standing recording.old 0)) self.makings.now }
-        requires deep { level + depth ≤ 100 }
-        ensures told { OnOk result (TellsCause (with_standing recording.old 0) cause.now level depth telling.old telling.new) }
+        place: Place,
+        moment: u32,
+    ) -> Result<Origin, AllocError>
+        requires stores { All (IsStore (with_standing recording.old 0)) self.stores.now }
+        requires moment { moment ≤ length recording.old.events }
+        ensures origin { IfOk result (λ origin. origin ≡ origin_in (with_standing recording.old moment) place) }
         ensures state { recording.new ≡ with_standing recording.old recording.new.standing }
     {
-        let alloc = self.alloc;
-        if telling.is_full() {
-            return Ok(());
-        }
-        let number = match cause.origin {
-            Origin::NotFollowed => return telling.push_cause(alloc, level, cause, b""),
-            Origin::Start => return telling.push_cause(alloc, level, cause, b" from the start"),
-            Origin::Change(number) => number,
-        };
-        if depth == 0 {
-            let made = made_by(alloc, number)?;
-            return telling.push_cause(alloc, level, cause, made.as_bytes());
-        }
-        match noted(self.makings, number, cause.extent) {
-            Some(making) => self.tell_making(recording, telling, level, depth, cause, making),
+        match noted_store(self.stores, place, moment) {
+            Some(store) => Ok(store.origin),
             None => {
-                let making = making_of(alloc, recording, number, cause.extent)?;
-                self.tell_making(recording, telling, level, depth, cause, &making)
+                go_to(recording, moment)?;
+                find_origin(self.alloc, recording, place)
             }
         }
     }
 
-    /// Tells a cause, what decided its change, and what that made it of, which is this.
-    #[cycle(telling)]
+    /// The causes of what an event made.
+    fn causes_of(self, recording: &mut Session, making: &Making) -> Result<Vec<Cause>, AllocError>
+        requires stores { All (IsStore (with_standing recording.old 0)) self.stores.now }
+        requires making { IsMaking (with_standing recording.old 0) making.now }
+        ensures causes { IfOk result (λ causes. causes.items ≡ causes_of (with_standing recording.old 0) making.now.number making.now.extent) }
+        ensures state { recording.new ≡ with_standing recording.old recording.new.standing }
+    {
+        let moment = making.number.saturating_sub(1).min(recording.recorded());
+        let mut sources = Vec::new(self.alloc);
+        for place in making.places.iter() {
+            let origin = self.origin_at(recording, *place, moment)?;
+            sources.push(Sourced {
+                place: *place,
+                origin,
+            })?;
+        }
+        causes_from(self.alloc, sources.as_slice())
+    }
+
+    /// The lines of a node, by what its event made.
+    fn lines_of(self, making: &Making, causes: &[Cause]) -> Result<Text, AllocError>
+        ensures { IfOk result (λ text. text ≡ lines_in self.entry.detail making.now.head (cause_items causes.now) making.now.deciders.items) }
+    {
+        let mut text = Text::new(self.alloc);
+        let items = cause_items(self.alloc, causes)?;
+        match self.detail {
+            Detail::Brief => push_brief(
+                self.alloc,
+                &mut text,
+                making.head.as_bytes(),
+                items.as_slice(),
+            )?,
+            Detail::Full => {
+                push_full(&mut text, making.head.as_bytes(), items.as_slice())?;
+                push_decided(&mut text, making.deciders.as_slice())?;
+            }
+        }
+        Ok(text)
+    }
+
+    /// Tells a node by what its event made, and puts those below it behind the nodes that are known.
     fn tell_making(
         self,
         recording: &mut Session,
         telling: &mut Telling,
-        level: u32,
-        depth: u32,
-        cause: &Cause,
+        known: &mut Vec<Node>,
         making: &Making,
+        depth: u32,
     ) -> Result<(), AllocError>
-        requires makings { All (IsMaking (with_standing recording.old 0)) self.makings.now }
+        requires stores { All (IsStore (with_standing recording.old 0)) self.stores.now }
         requires making { IsMaking (with_standing recording.old 0) making.now }
-        requires of { IsOf cause.now making.now }
-        requires some { 0 < depth }
-        requires deep { level + depth ≤ 100 }
-        ensures told { OnOk result (TellsCause (with_standing recording.old 0) cause.now level depth telling.old telling.new) }
+        ensures told { OnOk result (TellsNode (with_standing recording.old 0) self.entry.detail making.now.number making.now.extent telling.old telling.new) }
+        ensures known { OnOk result (known.new.items ≡ known_after (with_standing recording.old 0) known.old.items making.now.number making.now.extent depth) }
         ensures state { recording.new ≡ with_standing recording.old recording.new.standing }
     {
-        let mut made = Text::new(self.alloc);
-        made.push_text(" by ")?;
-        made.push_bytes(making.words.as_bytes())?;
-        telling.push_cause(self.alloc, level, cause, made.as_bytes())?;
-        telling.push_decided(self.alloc, level + 1, making.decided.as_bytes())?;
-        for source in making.causes.iter() {
-            self.tell(recording, telling, level + 1, depth - 1, source)?;
+        let causes = self.causes_of(recording, making)?;
+        let text = self.lines_of(making, causes.as_slice())?;
+        telling.push(text.as_bytes())?;
+        push_nodes(known, depth, causes.as_slice())
+    }
+
+    /// Tells a node, and puts those below it behind the nodes that are known.
+    fn tell(
+        self,
+        recording: &mut Session,
+        telling: &mut Telling,
+        known: &mut Vec<Node>,
+        node: Node,
+    ) -> Result<(), AllocError>
+        requires makings { All (IsMaking (with_standing recording.old 0)) self.makings.now }
+        requires stores { All (IsStore (with_standing recording.old 0)) self.stores.now }
+        ensures told { OnOk result (TellsNode (with_standing recording.old 0) self.entry.detail node.number node.extent telling.old telling.new) }
+        ensures known { OnOk result (known.new.items ≡ known_after (with_standing recording.old 0) known.old.items node.number node.extent node.depth) }
+        ensures state { recording.new ≡ with_standing recording.old recording.new.standing }
+    {
+        match noted_making(self.makings, node.number, node.extent) {
+            Some(making) => self.tell_making(recording, telling, known, making, node.depth),
+            None => {
+                let making = making_of(self.alloc, recording, node.number, node.extent)?;
+                self.tell_making(recording, telling, known, &making, node.depth)
+            }
         }
-        Ok(())
+    }
+
+    /// Tells the chain that begins with a node.
+    fn text_from(self, recording: &mut Session, first: Node) -> Result<Text, AllocError>
+        requires makings { All (IsMaking (with_standing recording.old 0)) self.makings.now }
+        requires stores { All (IsStore (with_standing recording.old 0)) self.stores.now }
+        ensures text { IfOk result (λ text. text ≡ told_lines (node_texts (most_lines + 1) (with_standing recording.old 0) self.entry.detail (first ∷ []) 0)) }
+        ensures state { recording.new ≡ with_standing recording.old recording.new.standing }
+    {
+        let mut telling = Telling::new(self.alloc);
+        let mut known = Vec::new(self.alloc);
+        known.push(first)?;
+        for told in 0..MOST_LINES + 1 {
+            if told >= known.len() {
+                return telling.finish();
+            }
+            let node = known[told];
+            self.tell(recording, &mut telling, &mut known, node)?;
+        }
+        telling.finish()
     }
 }
 
-/// That the change of a number made a value, where it is not followed.
-fn made_by(alloc: Global, number: u32) -> Result<Text, AllocError>
-    ensures { IfOk result (λ text. text ≡ codes " by " ++ decimal number) }
+/// Adds the line of what decided an event, if anything did.
+fn push_decided(text: &mut Text, deciders: &[Text]) -> Result<(), AllocError>
+    ensures { OnOk result (text.new ≡ text.old ++ decided_line deciders.now) }
+{
+    if deciders.is_empty() {
+        return Ok(());
+    }
+    push_full(text, b"  decided by", deciders)
+}
+
+/// That a place is as at the start.
+fn text_of_start(alloc: Global, recording: &Session, place: Place) -> Result<Text, AllocError>
+    ensures { IfOk result (λ text. (depth : ℕ) (detail : Detail) → text ≡ why_text_from recording.now place depth detail None) }
 {
     let mut text = Text::new(alloc);
-    text.push_text(" by ")?;
-    text.push_decimal(u64::from(number))?;
+    push_extent(&mut text, Extent::of(place))?;
+    push_words(&mut text, recording.machine(), Extent::of(place))?;
+    text.push_text(" from the start\n")?;
     Ok(text)
 }
 
-/// An extent that the change of a number made, and how deep it is to be followed.
-#[derive(Clone, Copy)]
-struct Followed {
-    number: u32,
-    extent: Extent,
-    depth: u32,
-}
-
-/// What is still to be followed.
-#[derive(Drop)]
-struct Pending {
-    followed: Vec<Followed>,
-    /// By number and depth: where it stands in the list.
-    order: BinaryHeap<(u32, u32, usize)>,
-}
-
-impl Pending {
-    /// Adds a cause, if a change made it and it is to be followed.
-    fn push(&mut self, cause: &Cause, depth: u32) -> Result<(), AllocError> {
-        let Origin::Change(number) = cause.origin else {
-            return Ok(());
-        };
-        if depth == 0 {
-            return Ok(());
-        }
-        self.order.push((number, depth, self.followed.len()))?;
-        self.followed.push(Followed {
-            number,
-            extent: cause.extent,
-            depth,
-        })?;
-        Ok(())
-    }
-
-    /// Takes the one of the greatest number, and of these the deepest.
-    fn pop_latest(&mut self) -> Option<Followed> {
-        let (_, _, index) = self.order.pop()?;
-        self.followed.get(index).copied()
-    }
-}
-
-/// Goes back from each change that is to be followed to the next before it, and notes what it made.
-fn gather(
+/// Tells the chain that begins with a node. The recording is left at some change.
+fn text_of_chain(
     alloc: Global,
     recording: &mut Session,
-    first: &Cause,
-    depth: u32,
-) -> Result<Vec<Making>, AllocError>
-    ensures makings { IfOk result (λ makings. All (IsMaking (with_standing recording.old 0)) makings.items) }
+    first: Node,
+    detail: Detail,
+) -> Result<Text, AllocError>
+    ensures text { IfOk result (λ text. text ≡ told_lines (node_texts (most_lines + 1) (with_standing recording.old 0) detail (first ∷ []) 0)) }
     ensures state { recording.new ≡ with_standing recording.old recording.new.standing }
 {
-    let mut makings = Vec::new(alloc);
-    let mut pending = Pending {
-        followed: Vec::new(alloc),
-        order: BinaryHeap::new(alloc),
+    let gathering = gather(alloc, recording, first)?;
+    let chain = Chain {
+        alloc,
+        makings: gathering.makings.as_slice(),
+        stores: gathering.stores.as_slice(),
+        detail,
     };
-    pending.push(first, depth)?;
-    for _ in 0..MOST_LINES {
-        let Some(next) = pending.pop_latest() else {
-            break;
-        };
-        if noted(makings.as_slice(), next.number, next.extent).is_some() {
-            continue;
-        }
-        let making = making_of(alloc, recording, next.number, next.extent)?;
-        for cause in making.causes.iter() {
-            pending.push(cause, next.depth.saturating_sub(1))?;
-        }
-        makings.push(making)?;
-    }
-    Ok(makings)
+    chain.text_from(recording, first)
 }
 
 /// Tells why a place has its value, so deep. The recording stands where it stood; want of memory leaves it at some change.
@@ -311,21 +209,29 @@ pub(crate) fn answer_why(
     recording: &mut Session,
     place: Place,
     depth: u32,
+    detail: Detail,
 ) -> Result<Text, AllocError>
-    ensures text { IfOk result (λ text. text ≡ why_text recording.old place depth) }
+    ensures text { IfOk result (λ text. text ≡ why_text recording.old place depth detail) }
     ensures state { OnOk result (recording.new ≡ recording.old) }
     ensures memory { OnErr result (recording.new ≡ with_standing recording.old recording.new.standing) }
 {
-    let depth = depth.min(MOST_DEPTH);
     let standing = recording.standing();
-    let first = first_cause(alloc, recording, place)?;
-    let makings = gather(alloc, recording, &first, depth)?;
-    let mut telling = Telling {
-        text: Text::new(alloc),
-        lines: 0,
+    let extent = Extent::of(place);
+    let depth = depth.min(MOST_DEPTH);
+    let start = text_of_start(alloc, recording, place)?;
+    let text = match last_number(alloc, recording, Sought::Stores(extent), 0)? {
+        Some(number) => text_of_chain(
+            alloc,
+            recording,
+            Node {
+                number,
+                extent,
+                depth,
+            },
+            detail,
+        )?,
+        None => start,
     };
-    let makings = makings.as_slice();
-    Chain { alloc, makings }.tell(recording, &mut telling, 0, depth, &first)?;
     go_to(recording, standing)?;
-    telling.finish()
+    Ok(text)
 }

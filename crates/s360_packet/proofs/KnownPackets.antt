@@ -7,9 +7,10 @@ use Rattle.s360_packet.specs.Receiving.{between_packets, received_along}
 use Rattle.s360_packet.specs.declared.receiver.Received.TheVariants.{Packet, TooLong, Damaged, Interrupt}
 use Rattle.s360_packet.specs.Requests.{reading_of}
 use Rattle.s360_packet.specs.declared.request.Breakpoint.TheVariants.{Software, Hardware}
-use Rattle.s360_packet.specs.declared.request.Point.TheVariants.{Write}
+use Rattle.s360_packet.specs.declared.request.Point.TheVariants.{Watch as watch}
+use Rattle.s360_packet.specs.declared.request.Watchpoint.TheVariants.{Write, Read, Access}
 use Rattle.s360_packet.specs.declared.request.Thread.TheVariants.{Every}
-use Rattle.s360_packet.specs.declared.request.Request.TheVariants.{Storage, WriteStorage, WriteRegister, Insert, InsertIf, Description, MemoryMap, Select, Command, Restart, Run, Supported}
+use Rattle.s360_packet.specs.declared.request.Request.TheVariants.{Storage, WriteStorage, WriteRegister, Insert, InsertIf, Remove, Description, MemoryMap, Select, Command, Restart, Run, Supported}
 use Rattle.s360_packet.specs.declared.request.RequestFault.TheVariants.{Unknown, Malformed}
 use Rattle.s360_packet.specs.Answers.{answer_text}
 use Rattle.s360_packet.specs.declared.answer.Answer.TheVariants.{Error, MemoryMap as map, Supported as told, Stopped}
@@ -45,8 +46,14 @@ storage_request = refl
 pub register_request : reading_of (codes "P0=00003800") ≡ Ok (WriteRegister 0 0x3800)
 register_request = refl
 
-pub watch_request : reading_of (codes "Z2,604,4") ≡ Ok (Insert Write 0x604 4)
+pub watch_request : reading_of (codes "Z2,604,4") ≡ Ok (Insert (watch Write) 0x604 4)
 watch_request = refl
+
+pub access_request : reading_of (codes "Z4,604,4") ≡ Ok (Insert (watch Access) 0x604 4)
+access_request = refl
+
+pub out_request : reading_of (codes "z3,604,4") ≡ Ok (Remove (watch Read) 0x604 4)
+out_request = refl
 
 pub conditions_request : reading_of (codes "Z0,300,2;Xb,2600032a2022052a201327") ≡ Ok (InsertIf Software 0x300 2 (codes "Xb,2600032a2022052a201327"))
 conditions_request = refl
@@ -96,9 +103,13 @@ pub named_map : reading_of (codes "qXfer:memory-map:read:map:0,1000") ≡ Err Ma
 named_map = refl
 
 -- answers
-pub watch_answer : answer_text (Stopped (Watch 0x604)) ≡ codes "T05watch:604;"
+pub watch_answer : answer_text (Stopped (Watch Write 0x604)) ≡ codes "T05watch:604;"
 unfolding digits
 watch_answer = refl
+
+pub read_answer : answer_text (Stopped (Watch Read 0x604)) ≡ codes "T05rwatch:604;"
+unfolding digits
+read_answer = refl
 
 pub error_answer : answer_text (Error 1) ≡ codes "E01"
 error_answer = refl

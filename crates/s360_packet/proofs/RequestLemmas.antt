@@ -7,7 +7,8 @@ use Rattle.s360_packet.specs.declared.request.Request.{Request}
 use Rattle.s360_packet.specs.declared.request.Request.TheVariants.{Stopped, Registers, WriteRegisters, Register, WriteRegister, Storage, WriteStorage, Step, Continue, StepBack, ContinueBack, Insert, InsertIf, Remove, Supported, Description, MemoryMap, HasMoved, Select, IsAlive, CurrentThread, Attached, FirstThreads, NextThreads, StopAcknowledging, Command, Extend, Restart, Run, Detach, Kill, KillProcess}
 use Rattle.s360_packet.specs.declared.request.Breakpoint.{Breakpoint}
 use Rattle.s360_packet.specs.declared.request.Breakpoint.TheVariants.{Software, Hardware}
-use Rattle.s360_packet.specs.declared.request.Point.TheVariants.{Break, Write}
+use Rattle.s360_packet.specs.declared.request.Point.TheVariants.{Break, Watch}
+use Rattle.s360_packet.specs.declared.request.Watchpoint.TheVariants.{Write, Read, Access}
 use Rattle.s360_packet.specs.declared.request.Thread.{Thread}
 use Rattle.s360_packet.specs.declared.request.Thread.TheVariants.{Every, Any, Numbered}
 use Rattle.s360_packet.proofs.BytesLemmas.{bytes_read, length-bytes_text}
@@ -49,12 +50,16 @@ request_read_back (Storage at count) is = rw (two_read at count is.0 is.1) refl
 request_read_back (WriteStorage at bytes) is = write_read at bytes is.0 is.1
 request_read_back (Insert (Break Software) at kind) is = insert_read Software at kind is.0 is.1
 request_read_back (Insert (Break Hardware) at kind) is = insert_read Hardware at kind is.0 is.1
-request_read_back (Insert Write at kind) is = rw (two_read at kind is.0 is.1) refl
+request_read_back (Insert (Watch Write) at kind) is = rw (two_read at kind is.0 is.1) refl
+request_read_back (Insert (Watch Read) at kind) is = rw (two_read at kind is.0 is.1) refl
+request_read_back (Insert (Watch Access) at kind) is = rw (two_read at kind is.0 is.1) refl
 request_read_back (InsertIf Software at kind conditions) is = insert_if_read Software at kind conditions is.0 is.1
 request_read_back (InsertIf Hardware at kind conditions) is = insert_if_read Hardware at kind conditions is.0 is.1
 request_read_back (Remove (Break Software) at kind) is = rw (two_read at kind is.0 is.1) refl
 request_read_back (Remove (Break Hardware) at kind) is = rw (two_read at kind is.0 is.1) refl
-request_read_back (Remove Write at kind) is = rw (two_read at kind is.0 is.1) refl
+request_read_back (Remove (Watch Write) at kind) is = rw (two_read at kind is.0 is.1) refl
+request_read_back (Remove (Watch Read) at kind) is = rw (two_read at kind is.0 is.1) refl
+request_read_back (Remove (Watch Access) at kind) is = rw (two_read at kind is.0 is.1) refl
 request_read_back (Description offset count) is = rw (two_read offset count is.0 is.1) refl
 request_read_back (MemoryMap offset count) is = rw (two_read offset count is.0 is.1) refl
 request_read_back (Select thread) is = rw (thread_read thread is) refl

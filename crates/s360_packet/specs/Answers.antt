@@ -5,6 +5,8 @@ use Rattle.s360_packet.specs.Hexadecimal.{bytes_text, word_text, number_text}
 use Rattle.s360_packet.specs.Target.{description, memory_map, part_of, register_text}
 use Rattle.s360_packet.specs.declared.answer.Stop.{Stop}
 use Rattle.s360_packet.specs.declared.answer.Stop.TheVariants.{Trap, Quiet, Interrupt, Watch, Breakpoint, HistoryBegin, HistoryEnd}
+use Rattle.s360_packet.specs.declared.request.Watchpoint.{Watchpoint}
+use Rattle.s360_packet.specs.declared.request.Watchpoint.TheVariants.{Write, Read, Access}
 use Rattle.s360_packet.specs.declared.answer.Answer.{Answer}
 use Rattle.s360_packet.specs.declared.answer.Answer.TheVariants.{Empty, Done, Error, Bytes, Registers, Register, Stopped, Console}
 use Rattle.s360_packet.specs.declared.answer.Answer.TheVariants.{Description, MemoryMap, Moved, Supported, Thread, Attached, FirstThreads, NoMoreThreads}
@@ -13,11 +15,17 @@ use Rattle.s360_packet.specs.declared.answer.Answer.TheVariants.{Description, Me
 abbrev pub registers_text : List ℕ → List ℕ
 registers_text words = flat_map word_text words ++ replicate 392 0x78
 
+-- what the address of a watched byte stands behind
+abbrev pub watch_name : Watchpoint → List ℕ
+watch_name Write = codes "watch:"
+watch_name Read = codes "rwatch:"
+watch_name Access = codes "awatch:"
+
 abbrev pub stop_text : Stop → List ℕ
 stop_text Trap = codes "T05"
 stop_text Quiet = codes "T00"
 stop_text Interrupt = codes "T02"
-stop_text (Watch at) = codes "T05watch:" ++ (number_text at ++ codes ";")
+stop_text (Watch watchpoint at) = codes "T05" ++ (watch_name watchpoint ++ (number_text at ++ codes ";"))
 stop_text Breakpoint = codes "T05swbreak:;"
 stop_text HistoryBegin = codes "T05replaylog:begin;"
 stop_text HistoryEnd = codes "T05replaylog:end;"

@@ -5,7 +5,9 @@ use Rattle.s360_packet.specs.Hexadecimal.{bytes_text, word_text, number_text}
 use Rattle.s360_packet.specs.declared.request.Breakpoint.{Breakpoint}
 use Rattle.s360_packet.specs.declared.request.Breakpoint.TheVariants.{Software, Hardware}
 use Rattle.s360_packet.specs.declared.request.Point.{Point}
-use Rattle.s360_packet.specs.declared.request.Point.TheVariants.{Break, Write}
+use Rattle.s360_packet.specs.declared.request.Point.TheVariants.{Break, Watch}
+use Rattle.s360_packet.specs.declared.request.Watchpoint.{Watchpoint}
+use Rattle.s360_packet.specs.declared.request.Watchpoint.TheVariants.{Write, Read, Access}
 use Rattle.s360_packet.specs.declared.request.Thread.{Thread}
 use Rattle.s360_packet.specs.declared.request.Thread.TheVariants.{Every, Any, Numbered}
 use Rattle.s360_packet.specs.declared.request.Request.{Request}
@@ -23,9 +25,14 @@ abbrev pub breakpoint_text : Breakpoint → List ℕ
 breakpoint_text Software = codes "0,"
 breakpoint_text Hardware = codes "1,"
 
+abbrev pub watchpoint_text : Watchpoint → List ℕ
+watchpoint_text Write = codes "2,"
+watchpoint_text Read = codes "3,"
+watchpoint_text Access = codes "4,"
+
 abbrev pub point_text : Point → List ℕ
 point_text (Break point) = breakpoint_text point
-point_text Write = codes "2,"
+point_text (Watch point) = watchpoint_text point
 
 abbrev pub thread_text : Thread → List ℕ
 thread_text Every = codes "-1"

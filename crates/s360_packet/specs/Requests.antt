@@ -9,7 +9,8 @@ use Rattle.s360_text.specs.Digits.{number_of_digits}
 use Rattle.s360_packet.specs.declared.request.Breakpoint.{Breakpoint}
 use Rattle.s360_packet.specs.declared.request.Breakpoint.TheVariants.{Software, Hardware}
 use Rattle.s360_packet.specs.declared.request.Point.{Point}
-use Rattle.s360_packet.specs.declared.request.Point.TheVariants.{Break, Write}
+use Rattle.s360_packet.specs.declared.request.Point.TheVariants.{Break, Watch}
+use Rattle.s360_packet.specs.declared.request.Watchpoint.TheVariants.{Write, Read, Access}
 use Rattle.s360_packet.specs.declared.request.Thread.{Thread}
 use Rattle.s360_packet.specs.declared.request.Thread.TheVariants.{Every, Any, Numbered}
 use Rattle.s360_packet.specs.declared.request.Request.{Request}
@@ -166,13 +167,21 @@ abbrev pub reading_behind : Option (List ℕ) → (List ℕ → Reading) → Rea
 reading_behind (Some rest) reading other = reading rest
 reading_behind None reading other = other
 
+abbrev pub point_out_reading : List ℕ → Reading
+point_out_reading text =
+    reading_behind (behind (codes "z0,") text) (remove_reading (Break Software))
+    (reading_behind (behind (codes "z1,") text) (remove_reading (Break Hardware))
+    (reading_behind (behind (codes "z2,") text) (remove_reading (Watch Write))
+    (reading_behind (behind (codes "z3,") text) (remove_reading (Watch Read))
+    (reading_behind (behind (codes "z4,") text) (remove_reading (Watch Access))
+    (Err Unknown)))))
+
 abbrev pub point_reading : List ℕ → Reading
 point_reading text =
-    reading_behind (behind (codes "Z2,") text) (insert_reading Write)
-    (reading_behind (behind (codes "z0,") text) (remove_reading (Break Software))
-    (reading_behind (behind (codes "z1,") text) (remove_reading (Break Hardware))
-    (reading_behind (behind (codes "z2,") text) (remove_reading Write)
-    (Err Unknown))))
+    reading_behind (behind (codes "Z2,") text) (insert_reading (Watch Write))
+    (reading_behind (behind (codes "Z3,") text) (insert_reading (Watch Read))
+    (reading_behind (behind (codes "Z4,") text) (insert_reading (Watch Access))
+    (point_out_reading text)))
 
 -- what stands behind `vRun;` and `R` is of no account
 abbrev pub query_reading : List ℕ → Reading

@@ -1,11 +1,12 @@
 //! The answers to gdb, as the data of packets. Source: gdb manual, "Remote Serial Protocol", "Packets", "Stop
 //! Reply Packets" and "General Query Packets".
 ghost use Rattle.std.specs.Prelude.{◌≡◌, ◌++◌, OnOk, replicate};
-ghost use Rattle.s360_packet.specs.Answers.{answer_text, stop_text, registers_text, supported_text};
+ghost use Rattle.s360_packet.specs.Answers.{answer_text, stop_text, registers_text, supported_text, watch_name};
 ghost use Rattle.s360_packet.specs.Hexadecimal.{number_text};
 ghost use Rattle.s360_packet.specs.Target.{register_text};
 
 use crate::pieces::{push_bytes, push_number, push_two_digits, push_word};
+use crate::request::Watchpoint;
 use crate::target::{REGISTERS, RegisterValue, description, push_memory_map, push_part};
 use s360_text::Text;
 use std::alloc::AllocError;
@@ -31,8 +32,8 @@ pub enum Stop {
     Quiet,
     /// gdb's user interrupted it.
     Interrupt,
-    /// A watched byte was altered.
-    Watch { at: u32 },
+    /// A watched byte was altered, read, or one of both.
+    Watch { watchpoint: Watchpoint, at: u32 },
     /// The next instruction stands at a breakpoint of gdb's own.
     Breakpoint,
     /// Nothing is left to take back.
@@ -114,6 +115,17 @@ pub fn write_answer(text: &mut Text, answer: Answer<'_>) -> Result<(), AllocErro
     }
 }
 
+/// What the address of a watched byte stands behind.
+fn watch_name(watchpoint: Watchpoint) -> &'static str
+    ensures { result.now ≡ watch_name watchpoint }
+{
+    match watchpoint {
+        Watchpoint::Write => "watch:",
+        Watchpoint::Read => "rwatch:",
+        Watchpoint::Access => "awatch:",
+    }
+}
+
 /// Adds why the machine stopped.
 fn push_stop(text: &mut Text, stop: Stop) -> Result<(), AllocError>
     ensures { OnOk result (text.new ≡ text.old ++ stop_text stop) }
@@ -122,8 +134,9 @@ fn push_stop(text: &mut Text, stop: Stop) -> Result<(), AllocError>
         Stop::Trap => text.push_text("T05"),
         Stop::Quiet => text.push_text("T00"),
         Stop::Interrupt => text.push_text("T02"),
-        Stop::Watch { at } => {
-            text.push_text("T05watch:")?;
+        Stop::Watch { watchpoint, at } => {
+            text.push_text("T05")?;
+            text.push_text(watch_name(watchpoint))?;
             push_number(text, u64::from(at))?;
             text.push_text(";")
         }

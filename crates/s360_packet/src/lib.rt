@@ -19,6 +19,6 @@ pub use condition::read_condition;
 pub use framing::{frame, push_packet};
 pub use laws::{all_registers_are_each, packets_are_read_back, requests_are_read_back};
 pub use receiver::{Acknowledging, Received, Receiver, Stage};
-pub use request::{Breakpoint, Payload, Point, Request, RequestFault, Thread};
+pub use request::{Breakpoint, Payload, Point, Request, RequestFault, Thread, Watchpoint};
 pub use request_reader::read_request;
 pub use target::{REGISTERS, RegisterValue, description, register_value};

@@ -52,13 +52,25 @@ pub enum Breakpoint {
     Hardware,
 }
 
-/// What stops the machine: a breakpoint, or a byte that is altered.
+/// What a watch of bytes waits for.
+#[derive(Clone, Copy, Default, PartialEq, Eq)]
+pub enum Watchpoint {
+    /// `2`: that one is altered.
+    #[default]
+    Write,
+    /// `3`: that one is read.
+    Read,
+    /// `4`: that one is read or stored.
+    Access,
+}
+
+/// What stops the machine.
 #[derive(Clone, Copy, PartialEq, Eq)]
 pub enum Point {
     /// The instruction at an address.
     Break(Breakpoint),
-    /// `2`: a byte from an address on that is written.
-    Write,
+    /// Bytes from an address on.
+    Watch(Watchpoint),
 }
 
 /// Which threads a request is about.

@@ -1,6 +1,6 @@
 //! Reads a packet's data as a request. Each name has its row, and each request with fields a function of its own.
 ghost use Rattle.std.specs.Prelude.{◌≡◌, Ok};
-ghost use Rattle.s360_packet.specs.Requests.{Reads, reading_of, fields_reading, query_reading, point_reading};
+ghost use Rattle.s360_packet.specs.Requests.{Reads, reading_of, fields_reading, query_reading, point_out_reading, point_reading};
 ghost use Rattle.s360_packet.specs.Requests.{named_request, named_query, thread_reading};
 ghost use Rattle.s360_packet.specs.Requests.{storage_reading, write_reading, register_reading, write_register_reading};
 ghost use Rattle.s360_packet.specs.Requests.{write_registers_reading, insert_reading, remove_reading, select_reading};
@@ -9,7 +9,7 @@ ghost use Rattle.s360_packet.specs.Requests.{alive_reading, description_reading,
 ghost use Rattle.s360_packet.specs.Requests.{bytes_in};
 
 use crate::fields::{behind, bytes, is, number, parted, thread, two_numbers, word};
-use crate::request::{Breakpoint, Payload, Point, Request, RequestFault};
+use crate::request::{Breakpoint, Payload, Point, Request, RequestFault, Watchpoint};
 use std::alloc::Global;
 
 /// The request that a packet's data is. A fault is answered whatever memory there is, and only a request that
@@ -145,13 +145,30 @@ fn read_point(text: &[u8]) -> Result<Request, RequestFault>
     ensures { result ≡ point_reading text.now }
 {
     if let Some(rest) = behind(text, "Z2,") {
-        read_insert(Point::Write, rest)
-    } else if let Some(rest) = behind(text, "z0,") {
+        read_insert(Point::Watch(Watchpoint::Write), rest)
+    } else if let Some(rest) = behind(text, "Z3,") {
+        read_insert(Point::Watch(Watchpoint::Read), rest)
+    } else if let Some(rest) = behind(text, "Z4,") {
+        read_insert(Point::Watch(Watchpoint::Access), rest)
+    } else {
+        read_point_out(text)
+    }
+}
+
+/// A request that takes a stop out.
+fn read_point_out(text: &[u8]) -> Result<Request, RequestFault>
+    ensures { result ≡ point_out_reading text.now }
+{
+    if let Some(rest) = behind(text, "z0,") {
         read_remove(Point::Break(Breakpoint::Software), rest)
     } else if let Some(rest) = behind(text, "z1,") {
         read_remove(Point::Break(Breakpoint::Hardware), rest)
     } else if let Some(rest) = behind(text, "z2,") {
-        read_remove(Point::Write, rest)
+        read_remove(Point::Watch(Watchpoint::Write), rest)
+    } else if let Some(rest) = behind(text, "z3,") {
+        read_remove(Point::Watch(Watchpoint::Read), rest)
+    } else if let Some(rest) = behind(text, "z4,") {
+        read_remove(Point::Watch(Watchpoint::Access), rest)
     } else {
         Err(RequestFault::Unknown)
     }

@@ -1,5 +1,6 @@
 pub mod RegisterLemmas
 pub mod PointLemmas
+pub mod LookingLemmas
 pub mod ConditionLemmas
 pub mod WritingLemmas
 pub mod RestLemmas

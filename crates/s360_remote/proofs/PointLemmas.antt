@@ -2,7 +2,10 @@
 use Rattle.std.proofs.Common.{◌≡◌, ◌<◌, ◌+◌, ◌∙◌, ℕ, zero, suc, Bool, true, false, cond, List, [], ◌∷◌, Some, refl, ap, sym, subst, arith, length, drop, get_or, nat_eq}
 use Rattle.std.specs.List.{filter, fold, items_where_true, range_with_len}
 use Rattle.std.specs.List.Retain.{IsFiltered, ReturnsInTurn}
+use Rattle.s360_packet.specs.declared.request.Watchpoint.{Watchpoint}
 use Rattle.s360_journal.specs.Standing.{Standing}
+use Rattle.s360_remote.specs.Accesses.{Accesses, byte_accessed, is_accessed}
+use Rattle.s360_remote.specs.declared.points.Met.{Met}
 use Rattle.s360_remote.specs.Points.{Watched, byte_altered_by, last_change_at, with_altered}
 
 -- the bytes that remain, the first of them apart
@@ -16,6 +19,12 @@ pub altered-next : (s : Standing) (number at n m : ℕ) (b : Bool) → n ≡ m +
 altered-next s number at n m b more is =
     ap (λ l. byte_altered_by s l number) (range-more at n m more) ∙ ap (λ x. cond x (Some at) (byte_altered_by s (range_with_len (at + 1) m) number)) is
 
+pub accessed-next : (x : Accesses) (watchpoint : Watchpoint) (at n m : ℕ) (b : Bool) → n ≡ m + 1 → is_accessed x watchpoint at ≡ b
+    → byte_accessed x watchpoint (range_with_len at n) ≡ cond b (Some at) (byte_accessed x watchpoint (range_with_len (at + 1) m))
+accessed-next x watchpoint at n m b more is =
+    ap (λ l. byte_accessed x watchpoint l) (range-more at n m more)
+    ∙ ap (λ y. cond y (Some at) (byte_accessed x watchpoint (range_with_len (at + 1) m))) is
+
 -- ---- one watch more
 
 at-index : (ws : List Watched) (i : ℕ) (w : Watched) → i < length ws → w ≡ get_or ws i w → drop i ws ≡ w ∷ drop (i + 1) ws
@@ -23,7 +32,7 @@ at-index [] i w h is = absurd (omega (arith, h))
 at-index (v ∷ ws) zero w h is = ap (λ x. x ∷ ws) (sym is)
 at-index (v ∷ ws) (suc i) w h is = let more : suc i + 1 ≡ suc (i + 1) = omega arith in at-index ws i w (omega (arith, h)) is ∙ ap (λ k. w ∷ drop k (v ∷ ws)) (sym more)
 
-pub altered-watch : (s : Standing) (number : ℕ) (ws : List Watched) (i : ℕ) (w : Watched) (told more : List ℕ) → i < length ws → w ≡ get_or ws i w → more ≡ with_altered s number told w
+pub altered-watch : (s : Standing) (number : ℕ) (ws : List Watched) (i : ℕ) (w : Watched) (told more : List Met) → i < length ws → w ≡ get_or ws i w → more ≡ with_altered s number told w
     → fold (λ t v. with_altered s number t v) told (drop i ws) ≡ fold (λ t v. with_altered s number t v) more (drop (i + 1) ws)
 altered-watch s number ws i w told more h is same =
     ap (λ vs. fold (λ t v. with_altered s number t v) told vs) (at-index ws i w h is) ∙ ap (λ t. fold (λ t v. with_altered s number t v) t (drop (i + 1) ws)) (sym same)

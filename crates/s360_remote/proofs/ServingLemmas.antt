@@ -1,5 +1,5 @@
 -- Requests that change nothing, and what is answered to a byte.
-use Rattle.std.proofs.Common.{◌≡◌, ◌++◌, ◌∙◌, inl, inr, ℕ, Bool, true, false, List, Some, Result, Ok, Err, refl, ap, sym, subst, append_assoc, option_to_list, IfOk, OnErr, ◌&&◌}
+use Rattle.std.proofs.Common.{◌≡◌, ◌++◌, ◌∙◌, inl, inr, ℕ, Bool, true, false, List, Some, Ok, Err, refl, ap, sym, subst, append_assoc, option_to_list, ◌&&◌}
 use Rattle.s360_packet.specs.Framing.{framed}
 use Rattle.s360_packet.specs.Receiving.{acknowledgement_of, after_byte, received_at}
 use Rattle.s360_packet.specs.Requests.{Reading, Reads, TakesMemory}
@@ -8,7 +8,7 @@ use Rattle.s360_packet.specs.declared.request.Payload.{Payload}
 use Rattle.s360_packet.specs.declared.request.Breakpoint.{Breakpoint}
 use Rattle.s360_packet.specs.declared.request.Point.{Point}
 use Rattle.s360_packet.specs.declared.request.Request.{Request}
-use Rattle.s360_packet.specs.declared.request.Request.TheVariants.{Stopped, Registers, WriteRegisters, Register, WriteRegister, Storage, WriteStorage, Step, Continue, StepBack, ContinueBack, Insert, InsertIf, Remove, Supported, Description, MemoryMap, HasMoved, Extend, Restart, Run, Select, IsAlive, CurrentThread, Attached, FirstThreads, NextThreads, StopAcknowledging, Command, Detach, Kill, KillProcess}
+use Rattle.s360_packet.specs.declared.request.Request.TheVariants.{WriteRegisters, WriteRegister, WriteStorage, Step, Continue, StepBack, ContinueBack, Insert, InsertIf, Remove, HasMoved, Restart, Run, Command, Kill}
 use Rattle.s360_packet.specs.declared.request.RequestFault.{RequestFault}
 use Rattle.s360_packet.specs.declared.request.RequestFault.TheVariants as fault
 use Rattle.s360_remote.specs.Connecting.{Connected, IsAnswered, IsCompleted, IsInterrupted, IsMet, IsReceived, IsTaken, answer_to_fault, errand_of, going, is_to_move}

@@ -1,5 +1,6 @@
 pub mod Registers
 pub mod Points
+pub mod Accesses
 pub mod Moving
 pub mod Driven
 pub mod Replies

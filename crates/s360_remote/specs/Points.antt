@@ -1,9 +1,12 @@
 -- Where gdb asks the machine to stop: breakpoints, and bytes of storage that are watched (gdb manual, "Packets", `Z0` to
--- `Z2`).
-use Rattle.std.specs.Prelude.{ℕ, Bool, true, false, not, ◌&&◌, ◌||◌, ◌+◌, nat_eq, nat_le, nat_lt, if◌then◌else◌, List, [], ◌∷◌, ◌++◌, length, Option}
+-- `Z4`).
+use Rattle.std.specs.Prelude.{ℕ, Bool, true, false, not, ◌&&◌, ◌||◌, ◌+◌, nat_eq, nat_le, nat_lt, if◌then◌else◌}
+use Rattle.std.specs.Prelude.{List, [], ◌∷◌, ◌++◌, length, Option, None, option_map}
 use Rattle.std.specs.List.{filter, find, fold, list_any, range_with_len}
 use Rattle.std.specs.Option.{option_to_list, unwrap_or}
 use Rattle.s360_store.specs.declared.place.Place.TheVariants.{Byte}
+use Rattle.s360_packet.specs.declared.request.Watchpoint.{Watchpoint}
+use Rattle.s360_packet.specs.declared.request.Watchpoint.TheVariants.{Write, Read, Access}
 use Rattle.s360_condition.specs.Evaluation.{holds}
 use Rattle.s360_condition.specs.Target.{Target}
 use Rattle.s360_condition.specs.declared.instruction.Placed.{Placed}
@@ -13,6 +16,7 @@ use Rattle.s360_journal.specs.Breakpoints.{has_room_for, is_at_breakpoint, with_
 use Rattle.s360_journal.specs.Rerun.{last_change_of}
 use Rattle.s360_journal.specs.Running.{WhereToStop}
 use Rattle.s360_journal.specs.Standing.{Standing}
+use Rattle.s360_remote.specs.declared.points.Met.{Met}
 use Rattle.s360_remote.specs.Registers.{words_of_machine}
 
 -- conditions of the breakpoint at an address, of which one has to hold: each is the instructions of an expression
@@ -20,8 +24,9 @@ pub record Conditional : Type 0 where
   pub at : ℕ
   pub conditions : List (List Placed)
 
--- so many bytes from an address on
+-- so many bytes from an address on, and what the watch of them waits for
 pub record Watched : Type 0 where
+  pub watchpoint : Watchpoint
   pub at : ℕ
   pub count : ℕ
 
@@ -72,19 +77,35 @@ byte_altered_by s bytes number = find (λ at. nat_eq (last_change_at s at) numbe
 abbrev pub has_byte : Watched → ℕ → Bool
 has_byte w at = nat_le w.at at && nat_lt at (w.at + w.count)
 
--- that of one watch more: gdb looks at each watch that has a byte which it is told of
-abbrev pub with_altered : Standing → ℕ → List ℕ → Watched → List ℕ
-with_altered s number told w =
-    if list_any (λ at. has_byte w at) told then told
-    else told ++ option_to_list (byte_altered_by s (range_with_len w.at w.count) number)
+-- that of one watch more, if it has one: gdb looks at each watch that has a byte which it is told of
+abbrev pub with_byte : List Met → Watched → Option ℕ → List Met
+with_byte told w at =
+    if list_any (λ b. has_byte w b.at) told then told
+    else told ++ option_to_list (option_map (λ a. record { watchpoint = w.watchpoint; at = a }) at)
+
+-- a watch that waits for bytes to be altered
+abbrev pub byte_altered_of : Standing → ℕ → Watchpoint → List ℕ → Option ℕ
+byte_altered_of s number Write bytes = byte_altered_by s bytes number
+byte_altered_of s number other bytes = None
+
+abbrev pub with_altered : Standing → ℕ → List Met → Watched → List Met
+with_altered s number told w = with_byte told w (byte_altered_of s number w.watchpoint (range_with_len w.at w.count))
 
 -- the watched bytes that gdb is told of one after another: those that the last change altered, one of each watch at most
-abbrev pub bytes_altered : Standing → List Watched → List ℕ
+abbrev pub bytes_altered : Standing → List Watched → List Met
 bytes_altered s watches = fold (λ told w. with_altered s (length s.events) told w) [] watches
 
-abbrev pub are_any : List ℕ → Bool
+abbrev pub are_any : List Met → Bool
 are_any [] = false
-are_any (at ∷ others) = true
+are_any (b ∷ others) = true
+
+abbrev pub is_for_writes : Watchpoint → Bool
+is_for_writes Write = true
+is_for_writes other = false
+
+-- a watch waits for bytes to be read
+abbrev pub waits_for_reads : Points → Bool
+waits_for_reads p = list_any (λ w. not (is_for_writes w.watchpoint)) p.watches
 
 -- where the machine is to pause
 abbrev pub stops_of : Points → WhereToStop
@@ -101,9 +122,18 @@ most_watches = 64
 abbrev pub are_same_bytes : Watched → Watched → Bool
 are_same_bytes v w = nat_eq v.at w.at && nat_eq v.count w.count
 
--- these bytes are watched
+abbrev pub is_same_watchpoint : Watchpoint → Watchpoint → Bool
+is_same_watchpoint Write Write = true
+is_same_watchpoint Read Read = true
+is_same_watchpoint Access Access = true
+is_same_watchpoint v w = false
+
+abbrev pub are_same : Watched → Watched → Bool
+are_same v w = is_same_watchpoint v.watchpoint w.watchpoint && are_same_bytes v w
+
+-- these bytes are watched so
 abbrev pub has_watch : List Watched → Watched → Bool
-has_watch watches w = list_any (λ v. are_same_bytes v w) watches
+has_watch watches w = list_any (λ v. are_same v w) watches
 
 -- no more can be watched
 abbrev pub is_full : List Watched → Bool
@@ -119,7 +149,7 @@ with_watch watches w = if has_watch watches w || is_full watches then watches el
 
 -- without these bytes, the others in their order
 abbrev pub without_watch : List Watched → Watched → List Watched
-without_watch watches w = filter (λ v. not (are_same_bytes v w)) watches
+without_watch watches w = filter (λ v. not (are_same v w)) watches
 
 -- with a breakpoint at an address, and these conditions in place of others; they stay as they are if no more can be set
 abbrev pub with_break : Points → ℕ → List (List Placed) → Points

@@ -14,10 +14,12 @@ use Rattle.s360_packet.specs.Target.{register_text, register_value}
 use Rattle.s360_packet.specs.declared.answer.Answer.{Answer}
 use Rattle.s360_packet.specs.declared.answer.Answer.TheVariants as answer
 use Rattle.s360_packet.specs.declared.answer.Stop.{Stop}
-use Rattle.s360_packet.specs.declared.answer.Stop.TheVariants.{Trap, Quiet, Watch as watch, Breakpoint, HistoryBegin, HistoryEnd}
+use Rattle.s360_packet.specs.declared.answer.Stop.TheVariants.{Trap, Quiet, Breakpoint, HistoryBegin, HistoryEnd}
 use Rattle.s360_packet.specs.declared.target.RegisterValue.{RegisterValue}
 use Rattle.s360_remote.specs.ErrorNumbers.{error_of}
+use Rattle.s360_remote.specs.declared.points.Met.{Met}
 use Rattle.s360_remote.specs.Registers.{words_of_machine}
+use Rattle.s360_remote.specs.Untold.{watch_of}
 use Rattle.s360_remote.specs.declared.error_number.ErrorNumber.TheVariants.{Address, Malformed}
 use Rattle.s360_journal.specs.declared.running.Pause.{Pause}
 use Rattle.s360_journal.specs.declared.running.Pause.TheVariants.{Refused, Watch, Idle, Break, Stepped, RecordEnd, RecordStart, Done}
@@ -75,20 +77,20 @@ abbrev pub end_packets : Reach → List ℕ → Stop → List ℕ
 end_packets Step words end = console_packet words ++ stop_packet Quiet
 end_packets reach.Stop words end = stop_packet end
 
--- the first of altered bytes
-abbrev pub watch_stop : List ℕ → Stop
+-- the first of the bytes that were met
+abbrev pub watch_stop : List Met → Stop
 watch_stop [] = Trap
-watch_stop (at ∷ others) = watch at
+watch_stop (b ∷ others) = watch_of b
 
 -- what tells why the machine pauses: where nothing is left to do, or an event is refused, a text and the stop that stands for
 -- it; m is the machine then, and the last event is that which stands last. A breakpoint where gdb has none lets it in, and it
 -- goes on by itself.
-abbrev pub pause_packets : Reach → Machine → Option EventKind → List ℕ → Pause → List ℕ
-pause_packets reach m last altered (Refused refusal) = console_packet (refused_text refusal) ++ stop_packet Quiet
-pause_packets reach m last altered Idle = console_packet (idle_words m last) ++ stop_packet Quiet
-pause_packets reach m last altered Watch = stop_packet (watch_stop altered)
-pause_packets reach m last altered Break = stop_packet Breakpoint
-pause_packets reach m last altered Stepped = stop_packet Trap
-pause_packets reach m last altered RecordEnd = end_packets reach (codes "end of what was recorded\n") HistoryEnd
-pause_packets reach m last altered RecordStart = end_packets reach (codes "start of what was recorded\n") HistoryBegin
-pause_packets reach m last altered Done = stop_packet Breakpoint
+abbrev pub pause_packets : Reach → Machine → Option EventKind → List Met → Pause → List ℕ
+pause_packets reach m last met (Refused refusal) = console_packet (refused_text refusal) ++ stop_packet Quiet
+pause_packets reach m last met Idle = console_packet (idle_words m last) ++ stop_packet Quiet
+pause_packets reach m last met Watch = stop_packet (watch_stop met)
+pause_packets reach m last met Break = stop_packet Breakpoint
+pause_packets reach m last met Stepped = stop_packet Trap
+pause_packets reach m last met RecordEnd = end_packets reach (codes "end of what was recorded\n") HistoryEnd
+pause_packets reach m last met RecordStart = end_packets reach (codes "start of what was recorded\n") HistoryBegin
+pause_packets reach m last met Done = stop_packet Breakpoint

@@ -16,7 +16,8 @@ use Rattle.s360_packet.specs.declared.answer.Answer.TheVariants as answer
 use Rattle.s360_packet.specs.declared.answer.Stop.{Stop}
 use Rattle.s360_packet.specs.declared.answer.Stop.TheVariants.{Trap}
 use Rattle.s360_packet.specs.declared.request.Point.{Point}
-use Rattle.s360_packet.specs.declared.request.Point.TheVariants.{Write as write}
+use Rattle.s360_packet.specs.declared.request.Point.TheVariants.{Watch as watch}
+use Rattle.s360_packet.specs.declared.request.Watchpoint.{Watchpoint}
 use Rattle.s360_packet.specs.declared.request.Thread.{Thread}
 use Rattle.s360_packet.specs.declared.request.Thread.TheVariants.{Numbered}
 use Rattle.s360_packet.specs.declared.request.Request.{Request}
@@ -26,7 +27,7 @@ use Rattle.s360_packet.specs.declared.request.Request.TheVariants.{Description, 
 use Rattle.s360_packet.specs.declared.request.Request.TheVariants.{FirstThreads, NextThreads, StopAcknowledging, Detach, Kill, KillProcess}
 use Rattle.s360_journal.specs.Recorded.{session_of, standing_events, with_standing}
 use Rattle.s360_remote.specs.Conditions.{conditions_in}
-use Rattle.s360_remote.specs.Driven.{Driven, come_to, gone_partly, moved_to}
+use Rattle.s360_remote.specs.Driven.{Driven, back_partly, come_to, gone_partly, moved_to}
 use Rattle.s360_remote.specs.ErrorNumbers.{error_of}
 use Rattle.s360_remote.specs.Moving.{Moved, gone_back, resumed}
 use Rattle.s360_inquiry.specs.Reading.{inquiry_of}
@@ -59,7 +60,7 @@ after_told d = record d { untold = after_stop d.untold d.points.watches }
 
 -- what tells why it pauses, and why nothing is left to do
 abbrev pub pause_told : Reach → Driven → Pause → List ℕ
-pause_told reach d why = pause_packets reach (machine_now d) (last_kind_of (standing_events d.recorded)) d.untold.altered why
+pause_told reach d why = pause_packets reach (machine_now d) (last_kind_of (standing_events d.recorded)) d.untold.met why
 
 abbrev pub idle_told : Driven → List ℕ
 idle_told d = console_packet (idle_words (machine_now d) (last_kind_of (standing_events d.recorded)))
@@ -91,12 +92,15 @@ HasGoneOn reach d t =
     (t ≡ moved_to d (resumed d.points reach d.recorded))
     ⊎ ((n : ℕ) × (t ≡ gone_partly (after_told d) reach n))
 
+-- likewise back
 abbrev pub HasGoneBack : Reach → Driven → Driven → Type 0
-HasGoneBack reach d t = t ≡ moved_to d (gone_back d.points reach d.recorded)
+HasGoneBack reach d t =
+    (t ≡ moved_to d (gone_back d.points reach d.recorded))
+    ⊎ ((n : ℕ) × (t ≡ back_partly (after_told d) n))
 
 -- the machine is started anew: it goes back to the start of the record, and nothing else is told
 abbrev pub started_anew : Driven → Driven
-started_anew d = record d { recorded = with_standing d.recorded 0; untold = record d.untold { altered = []; stop = false } }
+started_anew d = record d { recorded = with_standing d.recorded 0; untold = record d.untold { met = []; stop = false } }
 
 -- ---- requests that write
 
@@ -141,8 +145,8 @@ AreAllBegun bytes d t = (t ≡ d) ⊎ ((words : List ℕ) × AreWordsOf bytes wo
 abbrev pub is_in_storage : Driven → ℕ → ℕ → Bool
 is_in_storage d at count = if nat_lt (storage_size (machine_now d)) (at + count) then false else true
 
-abbrev bytes_at : ℕ → ℕ → Watched
-bytes_at at count = record { at = at; count = count }
+abbrev bytes_at : Watchpoint → ℕ → ℕ → Watched
+bytes_at watchpoint at count = record { watchpoint = watchpoint; at = at; count = count }
 
 abbrev watching : Points → List Watched → Points
 watching p watches = record p { watches = watches }
@@ -159,16 +163,19 @@ set_if true = answer.Done
 set_if false = error_of Full
 
 abbrev pub insert_answer : Point → ℕ → ℕ → Driven → Answer
-insert_answer write at count d = if is_in_storage d at count then set_if (has_room_for_watch d.points.watches (bytes_at at count)) else error_of Address
+insert_answer (watch watchpoint) at count d =
+    if is_in_storage d at count then set_if (has_room_for_watch d.points.watches (bytes_at watchpoint at count)) else error_of Address
 insert_answer other at count d = set_if (has_room_for d.points.breaks at)
 
 abbrev pub points_with : Point → ℕ → ℕ → Driven → Points
-points_with write at count d = if is_in_storage d at count then watching d.points (with_watch d.points.watches (bytes_at at count)) else d.points
+points_with (watch watchpoint) at count d =
+    if is_in_storage d at count then watching d.points (with_watch d.points.watches (bytes_at watchpoint at count)) else d.points
 points_with other at count d = with_break d.points at []
 
 -- no bytes beyond 2^32 are watched
 abbrev pub points_without : Point → ℕ → ℕ → Driven → Points
-points_without write at count d = if nat_lt (at + count) (2 ^ 32) then watching d.points (without_watch d.points.watches (bytes_at at count)) else d.points
+points_without (watch watchpoint) at count d =
+    if nat_lt (at + count) (2 ^ 32) then watching d.points (without_watch d.points.watches (bytes_at watchpoint at count)) else d.points
 points_without other at count d = without_break d.points at
 
 -- a breakpoint with conditions, if they are right
@@ -242,7 +249,7 @@ IsCommandBegun None line d t = IsBegunAtOnce line d t
 -- gdb is told whether the last line moved the machine. Where it did gdb looks at all anew, and is then told that the machine
 -- stands where it does.
 abbrev pub after_asking : Driven → Driven
-after_asking d = if d.untold.moved then record d { untold = record d.untold { altered = []; stop = true } } else d
+after_asking d = if d.untold.moved then record d { untold = record d.untold { met = []; stop = true } } else d
 
 -- ---- all requests
 

@@ -9,10 +9,10 @@ ghost use Rattle.s360_remote.specs.declared.serving.Then.TheVariants.{GoOn};
 
 use crate::condition::read_conditions;
 use crate::error_number::ErrorNumber;
-use crate::points::Watch;
 use crate::serving::Then;
 use crate::target::Target;
-use s360_packet::{Answer, Point, RequestFault, push_packet};
+use crate::watch::Watch;
+use s360_packet::{Answer, Point, RequestFault, Watchpoint, push_packet};
 use s360_text::Text;
 use std::alloc::AllocError;
 
@@ -30,7 +30,7 @@ impl Target {
     {
         let is_set = match point {
             Point::Break(_) => self.points.add_break(at),
-            Point::Write => match self.watch_in_storage(at, kind) {
+            Point::Watch(watchpoint) => match self.watch_in_storage(watchpoint, at, kind) {
                 Some(watch) => self.points.add_watch(watch),
                 None => {
                     push_packet(replies, ErrorNumber::Address.answer())?;
@@ -75,8 +75,8 @@ impl Target {
     {
         match point {
             Point::Break(_) => self.points.remove_break(at),
-            Point::Write => {
-                if let Some(watch) = Watch::new(at, kind) {
+            Point::Watch(watchpoint) => {
+                if let Some(watch) = Watch::new(watchpoint, at, kind) {
                     self.points.remove_watch(watch);
                 }
             }
@@ -86,14 +86,14 @@ impl Target {
     }
 
     /// So many bytes from an address on, if they are in storage.
-    fn watch_in_storage(&self, at: u32, count: u32) -> Option<Watch>
-        ensures { SomeIff result (at + count ≤ storage_size (machine_now self.now)) (record { at = at; count = count }) }
+    fn watch_in_storage(&self, watchpoint: Watchpoint, at: u32, count: u32) -> Option<Watch>
+        ensures { SomeIff result (at + count ≤ storage_size (machine_now self.now)) (record { watchpoint = watchpoint; at = at; count = count }) }
     {
         let size = u64::from(self.machine().storage().size());
         if u64::from(at) + u64::from(count) > size {
             return None;
         }
-        Watch::new(at, count)
+        Watch::new(watchpoint, at, count)
     }
 }
 

@@ -48,7 +48,8 @@ show m U N: an item of a unit's media
 show image U: the file of a tape
 who P: goes to just before the last change of a place, as `last` names places, and tells it
 who m U N: goes to just before the last change of an item of a unit's media, and tells it
-why P, why P N: what made its value, and what that was made of, 5 or N changes deep
+why P, why P N: which event stored its value, and what that was made of, 5 or N events deep
+why! P, why! P N: the same in full, and what decided each event
 goto N, goto start, goto end, goto last: goes to just after change N, to either end, to where one stood before
 changes P, changes P N: the last 10 or N changes of a place
 stores P, stores P N, stores s A-B, stores s A-B N: the last 10 or N stores into a place or bytes, also of an equal value

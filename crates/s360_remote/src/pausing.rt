@@ -39,23 +39,23 @@ impl Target {
         if let Some(stop) = self.untold.take_stop(&self.points) {
             return tell_stop(stop, replies);
         }
-        let pause = self.go_back(reach);
+        let pause = self.go_back(reach)?;
         self.tell_pause(pause, reach, replies)
     }
 
-    /// Tells why the machine pauses. Of altered bytes the first is told, and the others are left to be told.
+    /// Tells why the machine pauses. Of watched bytes the first is told, and the others are left to be told.
     fn tell_pause(
         &mut self,
         pause: Pause,
         reach: Reach,
         replies: &mut Text,
     ) -> Result<Then, AllocError>
-        ensures state { self.new ≡ record self.old { untold = record self.old.untold { altered = drop 1 self.old.untold.altered } } }
+        ensures state { self.new ≡ record self.old { untold = record self.old.untold { met = drop 1 self.old.untold.met } } }
         ensures next { IfOk result (λ next. next ≡ GoOn) }
         ensures packets { OnOk result (replies.new ≡ replies.old ++ pause_told reach self.old pause) }
     {
         let pushed = self.push_pause(pause, reach, replies);
-        let _told = self.untold.altered.take_first();
+        let _told = self.untold.met.take_first();
         pushed?;
         Ok(Then::GoOn)
     }
@@ -88,8 +88,8 @@ impl Target {
             ),
             Pause::Watch => push_packet(
                 replies,
-                Answer::Stopped(match self.untold.altered.first() {
-                    Some(at) => Stop::Watch { at },
+                Answer::Stopped(match self.untold.met.first() {
+                    Some(met) => met.stop(),
                     None => Stop::Trap,
                 }),
             ),

@@ -1,103 +1,74 @@
-//! Where gdb asks the machine to stop. Source: gdb manual, "Packets", `Z0` to `Z2`.
-ghost use Rattle.std.specs.Prelude.{◌≡◌, ◌<◌, ◌+◌, ◌^◌, [], ◌≤◌, not, drop, length, nat_eq, slice_get, vec_capacity, IfOk, OnErr, OnOk, SomeIff};
-ghost use Rattle.std.specs.List.{filter, list_any, range_with_len};
+//! Where gdb asks the machine to stop. Source: gdb manual, "Packets", `Z0` to `Z4`.
+ghost use Rattle.std.specs.Prelude.{◌≡◌, ◌<◌, ◌+◌, [], ◌≤◌, false, not, drop, length, nat_eq, slice_get, vec_capacity, IfOk, OnErr, OnOk};
+ghost use Rattle.std.specs.List.{filter, fold, list_any};
 ghost use Rattle.s360_journal.specs.Breakpoints.{has_room_for};
 ghost use Rattle.s360_journal.specs.Recorded.{session_of};
 ghost use Rattle.s360_machine.specs.Machine.{seen};
 ghost use Rattle.s360_condition.specs.Evaluation.{holds};
 ghost use Rattle.s360_remote.specs.Points.{is_passed, is_passed_in, no_points, stops_of, target_of, with_break, without_break, without_conditions};
-ghost use Rattle.s360_remote.specs.Points.{are_any, byte_altered_by, bytes_altered, last_change_at};
+ghost use Rattle.s360_remote.specs.Points.{are_any, bytes_altered, waits_for_reads, with_byte};
+ghost use Rattle.s360_remote.specs.Accesses.{with_accessed};
+ghost use Rattle.s360_remote.specs.Untold.{watch_of};
 ghost use Rattle.s360_remote.specs.Points.{has_byte, has_room_for_watch, is_watched, with_altered, with_watch, without_watch};
 
+use crate::accesses::Accesses;
 use crate::readout::Readout;
+use crate::watch::Watch;
 use arrayvec::ArrayVec;
 use s360_condition::Expression;
 use s360_journal::{Breaks, Session, Stops};
 use s360_machine::Machine;
-use s360_store::Place;
+use s360_packet::{Stop, Watchpoint};
 use std::alloc::{AllocError, Global};
 use std::marker::Model;
 
 /// So many runs of bytes can be watched.
 const MOST: usize = 64;
 
-/// Bytes of storage that are watched. Their addresses are below 2^32.
-#[derive(Clone, Copy, Default, PartialEq, Eq)]
-pub struct Watch {
+/// So many bytes can be met: one of each watch altered, and one accessed.
+const MOST_MET: usize = 2 * MOST;
+
+/// A watched byte of which gdb is told, and what its watch waits for.
+#[derive(Clone, Copy, Default)]
+pub(crate) struct Met {
+    watchpoint: Watchpoint,
     at: u32,
-    count: u32,
 }
 
-impl Model for Watch {
-    ghost use Rattle.std.specs.Prelude.{◌<◌, ◌+◌, ◌^◌};
-    ghost use Rattle.s360_remote.specs.Points.{Watched};
-
-    ghost Value = { Watched };
-
-    ghost view = { λ w. record { at = w.at; count = w.count } };
-
-    ghost invariant = { λ w. w.at + w.count < 2 ^ 32 };
-
-    ghost inverse = { λ w. record { at = w.at; count = w.count } };
-}
-
-impl Watch {
-    /// So many bytes from an address on, if they end within 32 bits.
-    pub fn new(at: u32, count: u32) -> Option<Watch>
-        ensures { SomeIff result (at + count < 2 ^ 32) (record { at = at; count = count }) }
+impl Met {
+    /// The stop at it.
+    pub(crate) fn stop(self) -> Stop
+        ensures { result ≡ watch_of self }
     {
-        at.checked_add(count)?;
-        Some(Watch { at, count })
-    }
-
-    /// The address of the first of the bytes that a change of this number was the last to alter.
-    fn byte_altered_by(self, session: &Session, number: u32) -> Option<u32>
-        ensures { result ≡ byte_altered_by (session_of session.now) (range_with_len self.at self.count) number }
-    {
-        for at in self.at..self.at + self.count {
-            if last_change_at(session, at) == number {
-                return Some(at);
-            }
+        Stop::Watch {
+            watchpoint: self.watchpoint,
+            at: self.at,
         }
-        None
-    }
-
-    /// Whether a byte is one of them.
-    fn has(self, at: u32) -> bool
-        ensures { result ≡ has_byte self at }
-    {
-        self.at <= at && at < self.at + self.count
     }
 }
 
-/// The number of the last change of a byte, 0 if there is none.
-fn last_change_at(session: &Session, at: u32) -> u32
-    ensures { result ≡ last_change_at (session_of session.now) at }
-{
-    session.last_change(Place::Byte(at)).unwrap_or(0)
-}
-
-/// Addresses of watched bytes that one change altered, one of each watch at most. A contract sees their list.
+/// Watched bytes that one event altered or accessed, one of each watch at most. A contract sees their list.
 #[derive(Drop)]
-pub struct AlteredBytes {
-    addresses: ArrayVec<u32, MOST>,
+pub struct BytesMet {
+    bytes: ArrayVec<Met, MOST_MET>,
 }
 
-impl Model for AlteredBytes {
-    ghost use Rattle.std.specs.Prelude.{List, ℕ};
+impl Model for BytesMet {
+    ghost use Rattle.std.specs.Prelude.{List};
+    ghost use Rattle.s360_remote.specs.declared.points.Met.{Met as ByteMet};
 
-    ghost Value = { List ℕ };
+    ghost Value = { List ByteMet };
 
-    ghost view = { λ a. a.addresses.items };
+    ghost view = { λ m. m.bytes.items };
 }
 
-impl AlteredBytes {
+impl BytesMet {
     /// None.
-    pub(crate) fn new() -> AlteredBytes
+    pub(crate) fn new() -> BytesMet
         ensures { result ≡ [] }
     {
-        AlteredBytes {
-            addresses: ArrayVec::new(),
+        BytesMet {
+            bytes: ArrayVec::new(),
         }
     }
 
@@ -105,50 +76,75 @@ impl AlteredBytes {
     pub(crate) fn is_empty(&self) -> bool
         ensures { result ≡ not (are_any self.now) }
     {
-        self.addresses.is_empty()
+        self.bytes.is_empty()
     }
 
     /// Whether a watch has one of them.
     fn is_in(&self, watch: Watch) -> bool
-        ensures { result ≡ list_any (λ at. has_byte watch at) self.now }
+        ensures { result ≡ list_any (λ b. has_byte watch b.at) self.now }
     {
-        self.addresses.as_slice().iter().any(|at| watch.has(*at))
+        self.bytes.as_slice().iter().any(|met| watch.has(met.at))
+    }
+
+    /// Adds a byte of a watch that has none of them yet, if there is one.
+    fn add(&mut self, watch: Watch, at: Option<u32>)
+        requires few { length self.old < 128 }
+        requires other { list_any (λ b. has_byte watch b.at) self.old ≡ false }
+        ensures bytes { self.new ≡ with_byte self.old watch at }
+        ensures few { length self.new ≤ length self.old + 1 }
+    {
+        if let Some(at) = at {
+            self.bytes.push(Met {
+                watchpoint: watch.watchpoint,
+                at,
+            });
+        }
     }
 
     /// Adds the first byte of a watch that the change of this number was the last to alter, if the watch has none of them yet.
-    fn add_byte_of(&mut self, watch: Watch, session: &Session, number: u32)
-        requires { length self.old < 64 }
+    fn add_altered(&mut self, watch: Watch, session: &Session, number: u32)
+        requires { length self.old < 128 }
         ensures bytes { self.new ≡ with_altered (session_of session.now) number self.old watch }
         ensures few { length self.new ≤ length self.old + 1 }
     {
         if self.is_in(watch) {
             return;
         }
-        if let Some(at) = watch.byte_altered_by(session, number) {
-            self.addresses.push(at);
+        self.add(watch, watch.byte_altered(session, number));
+    }
+
+    /// Adds the first byte of a watch that an event accesses as the watch waits for, if the watch has none of them yet.
+    fn add_accessed(&mut self, watch: Watch, accesses: &Accesses)
+        requires { length self.old < 128 }
+        ensures bytes { self.new ≡ with_accessed accesses.now self.old watch }
+        ensures few { length self.new ≤ length self.old + 1 }
+    {
+        if self.is_in(watch) {
+            return;
         }
+        self.add(watch, watch.byte_accessed(accesses));
     }
 
     /// The first, if there is one.
-    pub(crate) fn first(&self) -> Option<u32>
+    pub(crate) fn first(&self) -> Option<Met>
         ensures { result ≡ slice_get self.now 0 }
     {
-        self.addresses.as_slice().first().copied()
+        self.bytes.as_slice().first().copied()
     }
 
     /// Takes the first away, if there is one.
-    pub(crate) fn take_first(&mut self) -> Option<u32>
+    pub(crate) fn take_first(&mut self) -> Option<Met>
         ensures first { result ≡ slice_get self.old 0 }
         ensures others { self.new ≡ drop 1 self.old }
     {
-        self.addresses.pop_at(0)
+        self.bytes.pop_at(0)
     }
 
     /// Leaves those out that are no longer watched.
     pub(crate) fn keep_watched(&mut self, points: &Points)
-        ensures { self.new ≡ filter (λ at. is_watched points.now.watches at) self.old }
+        ensures { self.new ≡ filter (λ b. is_watched points.now.watches b.at) self.old }
     {
-        self.addresses.retain(|at| points.is_watched(*at));
+        self.bytes.retain(|met| points.is_watched(met.at));
     }
 }
 
@@ -302,15 +298,39 @@ impl Points {
     }
 
     /// The watched bytes that the last change altered: the first of each watch that has none of those before.
-    pub(crate) fn bytes_altered(&self, session: &Session) -> AlteredBytes
-        ensures { result ≡ bytes_altered (session_of session.now) self.now.watches }
+    pub(crate) fn bytes_altered(&self, session: &Session) -> BytesMet
+        ensures bytes { result ≡ bytes_altered (session_of session.now) self.now.watches }
+        ensures few { length result ≤ 64 }
     {
         let number = session.standing();
-        let mut altered = AlteredBytes::new();
+        let mut altered = BytesMet::new();
         for watch in self.watches.as_slice() {
-            altered.add_byte_of(*watch, session, number);
+            altered.add_altered(*watch, session, number);
         }
         altered
+    }
+
+    /// The watched bytes that an event altered, with those that it accesses as their watches wait for: the first of each watch that
+    /// has none of those before.
+    pub(crate) fn with_accessed(&self, altered: BytesMet, accesses: &Accesses) -> BytesMet
+        requires { length altered ≤ 64 }
+        ensures { result ≡ fold (λ told w. with_accessed accesses.now told w) altered self.now.watches }
+    {
+        let mut met = altered;
+        for watch in self.watches.as_slice() {
+            met.add_accessed(*watch, accesses);
+        }
+        met
+    }
+
+    /// Whether a watch waits for bytes to be read.
+    pub(crate) fn wait_for_reads(&self) -> bool
+        ensures { result ≡ waits_for_reads self.now }
+    {
+        self.watches
+            .as_slice()
+            .iter()
+            .any(|watch| watch.waits_for_reads())
     }
 }
 

@@ -11,7 +11,7 @@ ghost use Rattle.s360_remote.specs.declared.serving.Then.TheVariants.{GoOn};
 
 use crate::error_number::ErrorNumber;
 use crate::monitor::monitor;
-use crate::points::AlteredBytes;
+use crate::points::BytesMet;
 use crate::saving::save;
 use crate::target::Target;
 use byteorder::{BigEndian, ByteOrder};
@@ -93,7 +93,7 @@ impl Target {
     {
         push_packet(replies, Answer::Moved(self.untold.moved))?;
         if self.untold.moved {
-            self.untold.altered = AlteredBytes::new();
+            self.untold.met = BytesMet::new();
             self.untold.stop = true;
         }
         Ok(Then::GoOn)
@@ -104,7 +104,7 @@ impl Target {
         ensures { self.new ≡ started_anew self.old }
     {
         let _standing = self.session.back_to(0);
-        self.untold.altered = AlteredBytes::new();
+        self.untold.met = BytesMet::new();
         self.untold.stop = false;
     }
 

@@ -5,10 +5,11 @@ ghost use Rattle.s360_machine.specs.Machine.{seen, storage_size};
 ghost use Rattle.s360_journal.specs.Rerun.{AreAccepted};
 ghost use Rattle.s360_journal.specs.Standing.{last_of, machine_of};
 ghost use Rattle.s360_journal.specs.Recorded.{session_of, standing_events};
-ghost use Rattle.s360_remote.specs.Driven.{come_to, gone_partly, new_target, noting};
-ghost use Rattle.s360_remote.specs.Moving.{altered_if, gone_back, is_at_rest, is_turn_of, resumed, was_in_vain};
+ghost use Rattle.s360_remote.specs.Driven.{back_partly, come_to, gone_partly, new_target, noting};
+ghost use Rattle.s360_remote.specs.Moving.{altered_if, back_at_once, gone_back, is_at_rest, is_turn_of, resumed, was_in_vain};
 
-use crate::points::{AlteredBytes, Points};
+use crate::looking::{look_back, look_on};
+use crate::points::{BytesMet, Points};
 use crate::untold::Untold;
 use s360_journal::{Breaks, Pause, Reach, Session, Turn, next_event};
 use s360_machine::{Event, EventKind, Machine};
@@ -70,19 +71,39 @@ impl Target {
         ensures state { OnOk result (self.new ≡ come_to self.old (resumed self.old.points reach self.old.recorded)) }
         ensures memory { OnErr result ((n : ℕ) × (self.new ≡ gone_partly self.old reach n)) }
     {
-        let pause = if self.is_at_rest() {
-            Pause::Idle
-        } else {
-            self.session.run(&self.points, Turn::Next, reach, TURNS)?
-        };
+        if self.is_at_rest() {
+            self.note_altered(Pause::Idle);
+            return Ok(Pause::Idle);
+        }
+        if self.points.wait_for_reads() {
+            let paused = look_on(self.alloc, &mut self.session, &self.points, reach)?;
+            self.untold.met = paused.met;
+            return Ok(paused.why);
+        }
+        let pause = self.session.run(&self.points, Turn::Next, reach, TURNS)?;
         self.note_altered(pause);
         Ok(pause)
     }
 
-    /// Goes back, and answers why the machine pauses. It takes no memory.
-    pub fn go_back(&mut self, reach: Reach) -> Pause
-        ensures pause { result ≡ (gone_back self.old.points reach self.old.recorded).why }
-        ensures state { self.new ≡ come_to self.old (gone_back self.old.points reach self.old.recorded) }
+    /// Goes back, and answers why the machine pauses. Where no watch waits for bytes to be read it takes no memory; after want of it
+    /// some last ones of the changes are taken back.
+    pub fn go_back(&mut self, reach: Reach) -> Result<Pause, AllocError>
+        ensures pause { IfOk result (λ pause. pause ≡ (gone_back self.old.points reach self.old.recorded).why) }
+        ensures state { OnOk result (self.new ≡ come_to self.old (gone_back self.old.points reach self.old.recorded)) }
+        ensures memory { OnErr result ((n : ℕ) × (self.new ≡ back_partly self.old n)) }
+    {
+        if self.points.wait_for_reads() {
+            let paused = look_back(self.alloc, &mut self.session, &self.points, reach)?;
+            self.untold.met = paused.met;
+            return Ok(paused.why);
+        }
+        Ok(self.go_back_at_once(reach))
+    }
+
+    /// Likewise where no watch waits for bytes to be read.
+    fn go_back_at_once(&mut self, reach: Reach) -> Pause
+        ensures pause { result ≡ (back_at_once self.old.points reach self.old.recorded).why }
+        ensures state { self.new ≡ come_to self.old (back_at_once self.old.points reach self.old.recorded) }
     {
         let pause = self.session.run_back(&self.points, reach, TURNS);
         self.note_altered(pause);
@@ -96,9 +117,9 @@ impl Target {
     fn note_altered(&mut self, pause: Pause)
         ensures { self.new ≡ noting self.old (altered_if pause self.old.points self.old.recorded) }
     {
-        self.untold.altered = match pause {
+        self.untold.met = match pause {
             Pause::Watch => self.points.bytes_altered(&self.session),
-            _ => AlteredBytes::new(),
+            _ => BytesMet::new(),
         };
     }
 

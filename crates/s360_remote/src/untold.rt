@@ -3,15 +3,15 @@ ghost use Rattle.std.specs.Prelude.{◌≡◌};
 ghost use Rattle.s360_remote.specs.Driven.{nothing_untold};
 ghost use Rattle.s360_remote.specs.Untold.{after_stop, stop_before};
 
-use crate::points::{AlteredBytes, Points};
+use crate::points::{BytesMet, Points};
 use s360_packet::Stop;
 use std::marker::Model;
 
 /// What gdb is still to be told.
 #[derive(Drop)]
 pub(crate) struct Untold {
-    /// Watched bytes that were altered together with one that it was told of.
-    pub(crate) altered: AlteredBytes,
+    /// Watched bytes that were met together with one that it was told of.
+    pub(crate) met: BytesMet,
     /// That the machine stands where it does.
     pub(crate) stop: bool,
     /// If gdb asks, whether the last line of its user moved the machine.
@@ -23,7 +23,7 @@ impl Model for Untold {
 
     ghost Value = { Told };
 
-    ghost view = { λ u. record { altered = u.altered; stop = u.stop; moved = u.moved } };
+    ghost view = { λ u. record { met = u.met; stop = u.stop; moved = u.moved } };
 }
 
 impl Untold {
@@ -32,7 +32,7 @@ impl Untold {
         ensures { result ≡ nothing_untold }
     {
         Untold {
-            altered: AlteredBytes::new(),
+            met: BytesMet::new(),
             stop: false,
             moved: false,
         }
@@ -47,9 +47,9 @@ impl Untold {
             self.stop = false;
             return Some(Stop::Trap);
         }
-        self.altered.keep_watched(points);
-        match self.altered.take_first() {
-            Some(at) => Some(Stop::Watch { at }),
+        self.met.keep_watched(points);
+        match self.met.take_first() {
+            Some(met) => Some(met.stop()),
             None => None,
         }
     }

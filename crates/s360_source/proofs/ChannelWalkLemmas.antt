@@ -1,5 +1,5 @@
 -- A unit's program is walked over as its row is, with the end of loading.
-use Rattle.std.proofs.Common.{ℕ, ◌+◌, ◌≡◌, ◌∙◌, ◌++◌, Bool, cond, Option, Some, None, List, [], ◌∷◌, refl, sym, ap, arith, length, append_assoc, zero, suc}
+use Rattle.std.proofs.Common.{ℕ, ◌+◌, ◌≡◌, ◌∙◌, ◌++◌, Bool, cond, Option, Some, None, List, [], ◌∷◌, refl, sym, ap, subst, arith, length, append_assoc, zero, suc}
 use Rattle.std.proofs.Common.{true, false}
 use Rattle.std.specs.Prelude.{is_some, flat_map}
 use Rattle.std.specs.Option.{option_map}
@@ -36,6 +36,7 @@ use Rattle.s360_footprint.specs.LoadingRows.{ChannelEnd, address_row, address_st
 use Rattle.s360_footprint.specs.Sequences.{made_through, sequence, stores_through, through}
 use Rattle.s360_footprint.specs.StoringRows.{byte_stores}
 use Rattle.s360_source.specs.declared.{channel_moves.Extent.Extent, channel_word.ChannelWord.ChannelWord, question.Question.Question}
+use Rattle.s360_source.specs.Footprints.{IsWordIn}
 use Rattle.s360_source.specs.Channels.{IsChannelWord, IsExtentOf, status_of, word_deciders, word_sources, word_stores, channel_walk, followed_back, word_walk}
 use Rattle.s360_source.specs.Parts.{places_of_part}
 use Rattle.s360_source.specs.Walks.{sources_by, walked, with_bytes, with_decided, with_store, with_stores_of}
@@ -391,3 +392,11 @@ channel-walked q x program m found h =
     ∙ initial-walked q x program m before x.loads h
     ∙ ap (λ y. cond x.loads (with_store q (state_place u) (followed_back x (state_place u ∷ []))
     (with_store q Run [] (with_store q Psw (followed_back x (byte_places 0 8)) y))) y) (addressed-walked q x program m found h)
+
+-- the word at hand of a unit
+pub word-walked : (q : Question) (u : ConfiguredUnit) (x : ChannelWord) (program : Program) (m : Machine) (found after : List Place)
+    → IsWordIn m u (UnitState.Active program) (Some x) → after ≡ channel_walk q x (with_decided q (state_place u ∷ []) found)
+    → after ≡ walked q (channel_row (profile_of m.core) u) m found
+word-walked q u x program m found after h is =
+    subst (λ v. after ≡ channel_walk q x (with_decided q (state_place v ∷ []) found) → after ≡ walked q (channel_row (profile_of m.core) v) m found)
+    h.0 (λ k. k ∙ sym (channel-walked q x program m found h.1)) is

@@ -7,3 +7,4 @@ pub mod Fields
 pub mod Answers
 pub mod EventWalks
 pub mod Channels
+pub mod Footprints

@@ -1,11 +1,12 @@
 //! A channel event of a unit. Source: GA22-6821, "Input/Output Operations", execution of input/output operations.
-ghost use Rattle.std.specs.Prelude.{◌≡◌, OnOk};
-ghost use Rattle.s360_channel.specs.ConfiguredUnits.{control_of};
+ghost use Rattle.std.specs.Prelude.{◌≡◌, IfOk, OnOk, Some};
+ghost use Rattle.s360_channel.specs.ConfiguredUnits.{control_of, unit_at};
 ghost use Rattle.s360_channel.specs.declared.unit_state.UnitState.TheVariants.{Active};
 ghost use Rattle.s360_machine.specs.Machine.{seen};
 ghost use Rattle.s360_footprint.specs.LoadingRows.{channel_event_row, channel_row};
 ghost use Rattle.s360_footprint.specs.OperandReadings.{profile_of};
 ghost use Rattle.s360_source.specs.Channels.{channel_walk, device_stores, word_sources, word_stores, word_walk};
+ghost use Rattle.s360_source.specs.Footprints.{IsWordIn, IsWordOf};
 ghost use Rattle.s360_source.specs.Parts.{places_of_parts};
 ghost use Rattle.s360_source.specs.Walks.{walked};
 
@@ -18,7 +19,7 @@ use s360_channel::{Program, UnitState};
 use s360_machine::{ConfiguredUnit, Machine};
 use s360_store::Place;
 use s360_word::Unit;
-use std::alloc::AllocError;
+use std::alloc::{AllocError, Global};
 
 impl ChannelWord {
     /// What it makes is made of these.
@@ -99,65 +100,81 @@ fn push_word(
     Ok(())
 }
 
-/// Walks over a channel event of a unit that executes a program.
-fn push_program(
-    question: Question,
-    found: &mut Vec<Place>,
+/// The word with which a unit's program goes on.
+fn channel_word(
+    alloc: Global,
     machine: &Machine,
     unit: ConfiguredUnit,
     program: &Program,
-) -> Result<(), AllocError>
+) -> Result<ChannelWord, AllocError>
     requires active { (control_of machine.now.whole.units unit).state ≡ Active program.now }
-    ensures { OnOk result (found.new.items ≡ walked question (channel_row (profile_of machine.now.whole.core) unit) (seen machine.now.whole) found.old.items) }
+    ensures { IfOk result (λ word. IsWordIn (seen machine.now.whole) unit (Active program.now) (Some word)) }
 {
-    let (moved, loads) = executed_at(*found.allocator(), machine, unit, program)?;
+    let (moved, loads) = executed_at(alloc, machine, unit, program)?;
     let (word, target) = words_of(machine, program);
-    let word = ChannelWord {
+    Ok(ChannelWord {
         unit,
         word,
         target,
         moved,
         loads,
-    };
-    question.decide(found, &[Part::state(unit)])?;
-    push_word(question, found, &word)?;
-    Ok(())
+    })
 }
 
-/// Walks over a channel event of a unit, which executes a word of the unit's program if there is one.
+/// The word that a channel event of the unit at an address executes, if there is such a unit and it executes a program.
+pub(crate) fn word_at_hand(
+    alloc: Global,
+    machine: &Machine,
+    unit: Unit,
+) -> Result<Option<ChannelWord>, AllocError>
+    ensures { IfOk result (λ word. IsWordOf (seen machine.now.whole) (unit_at unit.0) word) }
+{
+    let Some(unit) = ConfiguredUnit::at(unit) else {
+        return Ok(None);
+    };
+    match state_of(machine, unit) {
+        UnitState::Active(program) => Ok(Some(channel_word(alloc, machine, unit, program)?)),
+        UnitState::Idle | UnitState::Waiting(_) => Ok(None),
+    }
+}
+
+/// Walks over a channel event of a unit, which executes the word at hand if the unit executes a program.
 fn push_unit_event(
     question: Question,
     found: &mut Vec<Place>,
     machine: &Machine,
     unit: ConfiguredUnit,
+    word: Option<ChannelWord>,
 ) -> Result<(), AllocError>
+    requires word { IsWordIn (seen machine.now.whole) unit (control_of machine.now.whole.units unit).state word }
     ensures { OnOk result (found.new.items ≡ walked question (channel_row (profile_of machine.now.whole.core) unit) (seen machine.now.whole) found.old.items) }
 {
-    match state_of(machine, unit) {
-        UnitState::Active(program) => {
-            push_program(question, found, machine, unit, program)?;
+    question.decide(found, &[Part::state(unit)])?;
+    match (state_of(machine, unit), word) {
+        (UnitState::Active(_), Some(word)) => {
+            push_word(question, found, &word)?;
             Ok(())
         }
-        UnitState::Idle | UnitState::Waiting(_) => {
-            question.decide(found, &[Part::state(unit)])?;
-            Ok(())
-        }
+        (UnitState::Active(_), None) => unreachable!(),
+        (UnitState::Idle | UnitState::Waiting(_), _) => Ok(()),
     }
 }
 
-/// Walks over a channel event of the unit at an address. Nothing happens if there is none.
+/// Walks over a channel event of the unit at an address, with the word at hand. Nothing happens if there is none.
 pub(crate) fn push_channel_event(
     question: Question,
     found: &mut Vec<Place>,
     machine: &Machine,
     unit: Unit,
+    word: Option<ChannelWord>,
 ) -> Result<(), AllocError>
+    requires word { IsWordOf (seen machine.now.whole) (unit_at unit.0) word }
     ensures { OnOk result (found.new.items ≡ walked question (channel_event_row (profile_of machine.now.whole.core) unit)
         (seen machine.now.whole) found.old.items) }
 {
     match ConfiguredUnit::at(unit) {
         Some(unit) => {
-            push_unit_event(question, found, machine, unit)?;
+            push_unit_event(question, found, machine, unit, word)?;
             Ok(())
         }
         None => Ok(()),

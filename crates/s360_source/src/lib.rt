@@ -37,7 +37,7 @@ mod status;
 mod storing;
 mod translating;
 
-pub use event::{deciders, sources, stored};
+pub use event::Footprint;
 pub use laws::walks_answer;
 pub use location::Location;
 pub use question::Question;

@@ -7,8 +7,7 @@ use Rattle.s360_machine.specs.Machine.{Machine}
 use Rattle.s360_footprint.specs.EventRows.{sources}
 use Rattle.s360_inquiry.specs.declared.extent.Extent.{Extent}
 use Rattle.s360_inquiry.specs.Causes.{with_places}
-use Rattle.s360_inquiry.specs.Extents.{extent_name}
-use Rattle.s360_inquiry.specs.Readers.{runs_of}
+use Rattle.s360_inquiry.specs.Extents.{extent_name, runs_of}
 
 -- the name of a run, or of a place alone, after a blank
 abbrev pub blank_and_name : Extent → List ℕ

@@ -9,8 +9,7 @@ use Rattle.s360_machine.specs.EventKinds.{kind_of_event}
 use Rattle.s360_machine.specs.Machine.{Machine}
 use Rattle.s360_journal.specs.Recorded.{Recorded, with_standing}
 use Rattle.s360_language.specs.Names.{event_name}
-use Rattle.s360_inquiry.specs.Causes.{event_next}
-use Rattle.s360_inquiry.specs.Changes.{machine_after}
+use Rattle.s360_inquiry.specs.Changes.{event_next, machine_after}
 use Rattle.s360_trace.specs.Executions.{executed_fields}
 use Rattle.s360_trace.specs.StoresTold.{lines_of, stores_met}
 

@@ -1,13 +1,11 @@
 //! The places that a value was made of, as a field of a line: in their order, each once, successive bytes together.
 ghost use Rattle.std.specs.Prelude.{◌≡◌, ◌++◌, IfOk, OnOk};
 ghost use Rattle.std.specs.List.{flat_map};
-ghost use Rattle.s360_machine.specs.Machine.{seen};
 ghost use Rattle.s360_trace.specs.SourcesTold.{blank_and_name, sources_words};
 
 use crate::field_texts::field_text;
 use s360_inquiry::{Extent, in_order, push_extent, runs_of};
-use s360_machine::{Event, Machine};
-use s360_source::sources;
+use s360_source::Footprint;
 use s360_store::Place;
 use s360_text::Text;
 use std::alloc::{AllocError, Global};
@@ -34,13 +32,12 @@ fn push_name(text: &mut Text, run: Extent) -> Result<(), AllocError>
 #[tactic(auto, unfolding(crate::specs::SourcesTold::sources_words))]
 pub(crate) fn sources_words(
     alloc: Global,
-    machine: &Machine,
-    event: &Event,
+    footprint: &Footprint<'_>,
     place: Place,
 ) -> Result<Text, AllocError>
-    ensures { IfOk result (λ text. text ≡ sources_words (seen machine.now.whole) event.now place) }
+    ensures { IfOk result (λ text. text ≡ sources_words footprint.now.machine footprint.now.event place) }
 {
-    let found = sources(alloc, machine, event, place)?;
+    let found = footprint.sources(alloc, place)?;
     let places = in_order(alloc, found.as_slice())?;
     let runs = runs_of(alloc, places.as_slice())?;
     let mut text = field_text(alloc)?;

@@ -10,6 +10,7 @@ use crate::sources_told::sources_words;
 use s360_inquiry::{in_order, stored_by};
 use s360_language::{push_place, push_value};
 use s360_machine::{Event, Machine};
+use s360_source::Footprint;
 use s360_store::Place;
 use s360_text::Text;
 use std::alloc::{AllocError, Global};
@@ -24,17 +25,12 @@ pub(crate) struct Store {
 }
 
 /// A place that an event stores into.
-fn store_met(
-    alloc: Global,
-    machine: &Machine,
-    event: &Event,
-    place: Place,
-) -> Result<Store, AllocError>
-    ensures { IfOk result (λ store. store ≡ store_met (seen machine.now.whole) event.now place) }
+fn store_met(alloc: Global, footprint: &Footprint<'_>, place: Place) -> Result<Store, AllocError>
+    ensures { IfOk result (λ store. store ≡ store_met footprint.now.machine footprint.now.event place) }
 {
     let mut before = field_text(alloc)?;
-    push_value(&mut before, machine, place)?;
-    let sources = sources_words(alloc, machine, event, place)?;
+    push_value(&mut before, footprint.machine(), place)?;
+    let sources = sources_words(alloc, footprint, place)?;
     Ok(Store {
         place,
         before,
@@ -51,11 +47,12 @@ pub(crate) fn stores_met(
 ) -> Result<Vec<Store>, AllocError>
     ensures { IfOk result (λ stores. stores.items ≡ stores_met (seen machine.now.whole) event.now) }
 {
-    let stored = stored_by(alloc, machine, event)?;
+    let footprint = Footprint::new(alloc, machine, event)?;
+    let stored = stored_by(alloc, &footprint)?;
     let places = in_order(alloc, stored.as_slice())?;
     let mut stores = Vec::new(alloc);
     for place in places.iter() {
-        stores.push(store_met(alloc, machine, event, *place)?)?;
+        stores.push(store_met(alloc, &footprint, *place)?)?;
     }
     Ok(stores)
 }

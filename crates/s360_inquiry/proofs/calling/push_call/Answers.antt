@@ -3,7 +3,7 @@ use Rattle.s360_machine.specs.declared.event_kind.EventKind.{EventKind}
 use Rattle.s360_machine.specs.Machine.{Machine, seen}
 use Rattle.s360_journal.specs.Recorded.{Recorded}
 use Rattle.s360_inquiry.specs.Calls.{line_of_call, returning_words}
-use Rattle.s360_inquiry.specs.Causes.{IsTold}
+use Rattle.s360_inquiry.specs.Tellings.{IsTold}
 use Rattle.s360_inquiry.specs.Changes.{event_words, kind_of_change, machine_after, words_of_change}
 use Rattle.s360_inquiry.proofs.JumpLemmas.{machine-there}
 use Rattle.s360_inquiry.proofs.calling.push_call.Goals as goal

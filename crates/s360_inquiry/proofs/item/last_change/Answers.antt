@@ -1,4 +1,4 @@
-use Rattle.std.proofs.Common.{◌≡◌, ◌-◌, ℕ, Bool, List, Option, Some, ap, sym, ◌∙◌, arith, get_or, rules, take, if◌then◌else◌}
+use Rattle.std.proofs.Common.{◌≡◌, ℕ, List, ap, sym, ◌∙◌, arith, rules}
 use Rattle.s360_journal.specs.Recorded.{Recorded, with_standing}
 use Rattle.s360_inquiry.specs.ItemChanges.{alters_item, last_that}
 use Rattle.s360_inquiry.proofs.ItemLemmas.{that-before, that-none}

@@ -1,4 +1,4 @@
-use Rattle.std.proofs.Common.{◌≡◌, ◌-◌, ◌++◌, ℕ, [], Some, ap, ◌∙◌, sym}
+use Rattle.std.proofs.Common.{◌≡◌, ◌-◌, ◌++◌, ℕ, [], ap, ◌∙◌, sym}
 use Rattle.s360_model.specs.Psw.{condition_code_of}
 use Rattle.s360_machine.specs.Machine.{Machine, seen}
 use Rattle.s360_journal.specs.Recorded.{Recorded, with_standing}
