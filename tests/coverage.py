@@ -26,10 +26,10 @@ from typing import NamedTuple
 import lines
 import packet_rows
 import rows
-from packet_fuzz import FETCH, Connection, deck_of
+from packet_fuzz import Connection, deck_of
 from second.channels import CONSOLE, PRINTER, PUNCH, READER, TAPES
 from second.core import SIZE
-from second.debugger import Debugger
+from second.debugger import Debugger, features_of
 from second.devices import CARD, REFUSED
 from second.machine import Machine
 from second.remote import Target
@@ -38,7 +38,7 @@ from second.tapes import Tape, items_of
 # The operation codes of docs/reference/instructions.md.
 INSTRUCTIONS = [*range(0x04, 0x0B), *range(0x10, 0x20), *range(0x40, 0x4D), 0x4E, 0x4F, 0x50]
 INSTRUCTIONS += [*range(0x54, 0x60), 0x80, 0x82, *range(0x86, 0x99), *range(0x9C, 0xA0)]
-INSTRUCTIONS += [*range(0xD1, 0xD8), 0xDC, 0xDD, *range(0xF1, 0xF4)]
+INSTRUCTIONS += [*range(0xD1, 0xD8), *range(0xDC, 0xE0), *range(0xF1, 0xF4), *range(0xF8, 0xFE)]
 # The commands of docs/reference/devices.md. The tapes are alike.
 TAPE = "tape"
 DEVICES = {READER: "reader", PUNCH: "punch", PRINTER: "printer", CONSOLE: "console"}
@@ -100,8 +100,8 @@ def wanted():
 class NotingMachine(Machine):
     """A machine that notes which instructions and commands came to their end."""
 
-    def __init__(self, deck, tapes, size, protects_fetches):
-        super().__init__(deck, tapes, size, protects_fetches)
+    def __init__(self, deck, tapes, size, **features):
+        super().__init__(deck, tapes, size, **features)
         self.carried_out = set()
 
     def execute(self, bytes_of_it, following, length_code):
@@ -160,7 +160,7 @@ class PacketRow(NamedTuple):
 
     def carried_out(self):
         row = packet_rows.row_of(self.file)
-        target = NotingTarget(deck_of(row.words), protects_fetches=FETCH in row.words)
+        target = NotingTarget(deck_of(row.words), **features_of(row.words))
         connection = Connection(target)
         connection.take(row.sent)
         answered = packet_rows.items_of(connection.answered)
@@ -183,7 +183,7 @@ def debugger_of(row):
     ]
     size = int(row.args[row.args.index("--storage") + 1]) if "--storage" in row.args else SIZE
     debugger = Debugger()
-    debugger.machine = NotingMachine(cards, tapes, size, "--fetch" in row.args)
+    debugger.machine = NotingMachine(cards, tapes, size, **features_of(row.args))
     return debugger
 
 

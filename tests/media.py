@@ -42,7 +42,7 @@ SECONDS = 300
 STORAGE, CARD = 65536, 80
 HELLO = (TOP / "examples/hello.s").read_text()
 NO_CODE = "the machine has no instruction"
-THE_88 = ": docs/reference/instructions.md has the 88"
+THE_96 = ": docs/reference/instructions.md has the 96"
 PRINTED = re.compile(r"(?m)^page \d+ line \d+ ?(.*)$")
 
 
@@ -170,7 +170,7 @@ OPERANDS = {
     "8(1),2": "MVI NI OI XI CLI TM",
     "2,8(3)": "SRL SLL SRDL SLDL SRA SLA SRDA SLDA",
     "2,4,8(3)": "STM LM BXH BXLE",
-    "8(4,1),8(4,2)": "PACK UNPK MVO",
+    "8(4,1),8(4,2)": "PACK UNPK MVO ZAP CP AP SP MP DP",
 }
 OPERANDS_OF_FORMAT = ("2,4", "2,8(3,4)", "", "8(4,1),8(2)")
 # An instruction of any code, by the two high bits of it.
@@ -184,7 +184,7 @@ def lines_of(*lines):
 def looks_at_assembler(looks):
     """Codes, signs and addresses, as the pages and the standard have them."""
     codes = dict(operations())
-    looks.look("how many instructions", 88, len(codes))
+    looks.look("how many instructions", 96, len(codes))
     operands = {name: form for form, names in OPERANDS.items() for name in names.split()}
     lines = [
         f"{name} {operands.get(name) or OPERANDS_OF_FORMAT[int(code, 16) >> 6]}"
@@ -200,7 +200,7 @@ def looks_at_assembler(looks):
     looks.file("others.s", lines_of(*lines, "LHI 1,2"))
     told = [f"{line}: .INSN: {NO_CODE} {code:02X}" for line, code in enumerate(others, 2)]
     told.append(f"{len(others) + 2}: LHI: {NO_CODE} A7")
-    looks.fails("\n".join(f"others.s:{each}{THE_88}" for each in told), S360AS, "others.s")
+    looks.fails("\n".join(f"others.s:{each}{THE_96}" for each in told), S360AS, "others.s")
 
     table = {sign: f"{code:02X}" for sign, code in signs() if sign != '"'}
     looks.look("how many signs", 26 + 26 + 10 + 24, len(table))
@@ -231,9 +231,9 @@ def looks_at_faults_of_assembler(looks):
     including = ' L 1,2\n .include "e.inc"\n'
     fails("d.s", including, "d.s:2: can't open e.inc for reading: No such file or directory")
     looks.file("e.inc", "MACRO: MVCL 2,4\n")
-    fails("d.s", including, f"e.inc:1: MVCL: {NO_CODE} 0E{THE_88}")
+    fails("d.s", including, f"e.inc:1: MVCL: {NO_CODE} 0E{THE_96}")
     macro = " .macro TWO\n LR 1,2\nDATA: .short 0xA718\n AHI 1,2\n .endm\n"
-    told = f"m.s:6: AHI: {NO_CODE} A7{THE_88}\nm.s:7: LHI: {NO_CODE} A7{THE_88}"
+    told = f"m.s:6: AHI: {NO_CODE} A7{THE_96}\nm.s:7: LHI: {NO_CODE} A7{THE_96}"
     fails("m.s", f"{macro} TWO\n LR 1,2; LR 3,4; LR 5,6; LR 7,8; LHI 1,2\n", told)
     far = "past FFF: give it a base register"
     told = f"f.s:1: the operand is at 0011A4, {far}\nf.s:2: the operand is at 0011A3, {far}"

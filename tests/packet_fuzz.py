@@ -8,7 +8,7 @@ answered by `second/remote.py` over the second machine. Each byte has to be the 
 their sums, what acknowledges them, what is said on standard error, and the files that are saved.
 The program has to end with its input, or with the request that ends it, with status 0. Requests are
 sent in sessions of so many, each to a new machine. Half of these have a deck, with a program that
-it loads, and half protect fetches.
+it loads, half protect fetches, and half have decimal arithmetic.
 """
 import argparse
 import copy
@@ -23,13 +23,14 @@ from concurrent.futures import ProcessPoolExecutor
 
 from fuzzer.packets import Requests
 from packet_rows import PROGRAM, STOP_ACKNOWLEDGING, TOP, framed, plain
+from second.debugger import features_of
 from second.remote import MALFORMED, OK, Endless, Target
 
 SECONDS = 120
 IN_A_SESSION = 200
 SIZE = 16384
 DECK = ["--reader", str(TOP / "examples/cards.deck")]
-FETCH = "--fetch"
+FEATURES = ("--fetch", "--decimal")
 CARD = 80
 DAMAGED = "damaged"
 INTERRUPT = b"\x03"
@@ -122,8 +123,8 @@ def session(seed, count):
     machine run on and on is not sent."""
     some = Requests(seed)
     deck = DECK if some.random() < 0.5 else []
-    words = [*deck, FETCH] if some.random() < 0.5 else deck
-    target = Target(deck_of(words), protects_fetches=FETCH in words)
+    words = [*deck, *(feature for feature in FEATURES if some.random() < 0.5)]
+    target = Target(deck_of(words), **features_of(words))
     some.changes = target.recording.changes
     sent, connection = b"", Connection(target)
     for data in requests(some, count, bool(deck)):

@@ -18,9 +18,10 @@ import os
 import re
 from typing import NamedTuple
 
-from packet_fuzz import FETCH, Connection, deck_of
+from packet_fuzz import Connection, deck_of
 from packet_rows import framed, row_of
 from second.core import SIZE as STORAGE
+from second.debugger import features_of
 from second.inquiries import FORMS as INQUIRIES
 from second.recording import Recording
 from second.remote import MALFORMED, MEMORY, OK, Target
@@ -68,7 +69,7 @@ class LackingTarget(Target):
     recording_type = LackingRecording
 
     def __init__(self, row, request=None, events=0, number=None):
-        super().__init__(deck_of(row.words), protects_fetches=FETCH in row.words)
+        super().__init__(deck_of(row.words), **features_of(row.words))
         self.request, self.events, self.number = request, events, number
         self.answers = []  # to each request
         self.is_done = False  # the request, and its answer alone is lost
@@ -151,7 +152,7 @@ class Conversation:
         target = self.connection(before).target
         points = dict.fromkeys(b"z" + point for point in SET_POINT.findall(before))
         asked = [b"g", *storage_requests(target.recording.altered)]
-        fresh = Target(deck_of(row.words), protects_fetches=FETCH in row.words)
+        fresh = Target(deck_of(row.words), **features_of(row.words))
         self.first_back = len(target.answers)
         self.back = [[OK]] * len(points) + [None, None, [AT_THE_START], *map(fresh.answer, asked)]
         self.sent = before + b"".join(map(framed, [*points, *[b"bc"] * 3, *asked])) + behind

@@ -12,9 +12,9 @@ bytes of its digits. In both a line that begins with `*` is a comment.
 
 A row of single instructions is `tests/rows/CHAPTER/NAME.cases`, of whose lines the script and its
 answers are made; `worked_cases.py` says how they are written. Its words of the command line stand
-in `NAME.args` too, of which `--fetch` alone is known there. The examples are rows too: their
-answers stand beside them in `.answers`, and their decks and tapes as files in `.deck`, `.tape0` and
-`.tape1`. With words, the rows that have one of them in their path.
+in `NAME.args` too, of which `--fetch` and `--decimal` alone are known there. The examples are rows
+too: their answers stand beside them in `.answers`, and their decks and tapes as files in `.deck`,
+`.tape0` and `.tape1`. With words, the rows that have one of them in their path.
 
 The answers have to be the same to the byte, with status 0 and nothing on standard error. Then the
 row is run a second time with as many `back` as changes stand at its end, and all that can be shown
@@ -36,6 +36,7 @@ from typing import NamedTuple
 
 import tally
 import worked_cases
+from second.debugger import features_of
 
 TOP = pathlib.Path(__file__).resolve().parent.parent
 ROWS = TOP / "tests/rows"
@@ -99,7 +100,7 @@ EXAMPLE_MEDIA = {
 }
 BESIDE = (".stdout", ".args", *ROW_MEDIA)
 CASES = ".cases"
-FETCH = "--fetch"
+FEATURES = ("--fetch", "--decimal")
 
 
 def media_beside(script, kinds):
@@ -129,7 +130,7 @@ def row_of_cases(file):
     """The row of a file of cases. A fault in it ends the program."""
     words = words_of(file.with_suffix(".args"))
     try:
-        cases = tuple(worked_cases.cases(file, protects_fetches=words == [FETCH]))
+        cases = tuple(worked_cases.cases(file, **features_of(words)))
     except worked_cases.Fault as fault:
         sys.exit(str(fault))
     script = text_of(line for case in cases for line in case.lines)
@@ -140,7 +141,9 @@ def row_of_cases(file):
 def row_of_example(script):
     answers = script.with_suffix(".answers").read_bytes()
     media = media_beside(script, EXAMPLE_MEDIA)
-    return Row(f"examples/{script.name}", script.read_bytes(), answers, [], media)
+    # Its first comment is its command line.
+    words = [word for word in script.read_text().split("\n")[0].split() if word in FEATURES]
+    return Row(f"examples/{script.name}", script.read_bytes(), answers, words, media)
 
 
 def rows():

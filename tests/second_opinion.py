@@ -35,8 +35,10 @@ def command_line(script, folder):
         file = pathlib.Path(folder) / option
         file.write_bytes(contents)
         yield from (f"--{option}", file)
-    if script.protects_fetches:
+    if script.features["protects_fetches"]:
         yield "--fetch"
+    if script.features["has_decimal"]:
+        yield "--decimal"
     for number, mounted in enumerate(script.tapes):
         if mounted.is_protected:
             yield f"--protect{number}"

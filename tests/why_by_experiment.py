@@ -381,7 +381,7 @@ def tried(seed, program):
     for _ in range(CASES):
         script.any_case()
     lines = [line for line in script.lines if line.split()[0] not in SKIPPED]
-    target = Target(script.deck, script.tapes, protects_fetches=script.protects_fetches)
+    target = Target(script.deck, script.tapes, **script.features)
     experiments = Experiments(seed, target)
     found = experiments.try_session(lines)
     if program is not None:

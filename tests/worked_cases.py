@@ -181,8 +181,8 @@ class Session:
     The debugger of the second machine answers them, but a step leaves what its case says.
     """
 
-    def __init__(self, protects_fetches):
-        self.debugger = Debugger(protects_fetches=protects_fetches)
+    def __init__(self, features):
+        self.debugger = Debugger(**features)
         self.lines = []
         self.answers = []
 
@@ -236,12 +236,12 @@ class Session:
             self.say("back")
 
 
-def worked(line, common, protects_fetches):
+def worked(line, common, features):
     """The session of a case, before which the common values stand too."""
     instruction, _, steps = line.partition(" ")
     first, *others = [step_of(text) for text in steps.split(";")]
     before = [START, *common, *first.before]
-    session = Session(protects_fetches)
+    session = Session(features)
     session.patch([*before, instruction_of(instruction, psw_in(before))])
     session.step(first)
     for step in others:
@@ -251,15 +251,15 @@ def worked(line, common, protects_fetches):
     return session
 
 
-def cases(file, protects_fetches=False):
-    """The cases of a file, whose fetches are protected or not. A fault says the line that has it."""
+def cases(file, **features):
+    """The cases of a file over a machine with these features. A fault says the line that has it."""
     common = []
     for number, line in enumerate(file.read_text().splitlines(), 1):
         try:
             if line.startswith("with "):
                 common = values_of(line.split()[1:])
             elif line.strip() and not line.startswith("*"):
-                session = worked(line, common, protects_fetches)
+                session = worked(line, common, features)
                 yield Case(f"{file}:{number}: {line}", session.lines, session.answers)
         except Fault as fault:
             raise Fault(f"{file}:{number}: {fault}") from None

@@ -36,6 +36,8 @@ class Program(NamedTuple):
                 yield f"--protect{number}"
         if media.fetch:
             yield "--fetch"
+        if media.decimal:
+            yield "--decimal"
 
     def run(self, session):
         command = [self.path, *self.words(session.media)]

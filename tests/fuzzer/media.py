@@ -145,7 +145,8 @@ def media(some, size=None):
     """Media that are right, in storage of any size."""
     protects = some.random() < 0.1, some.random() < 0.1
     files = deck(some), tape(some), tape(some)
-    return Media(size or some.choice(SIZES), *files, *protects, fetch=some.random() < 0.4)
+    features = {"fetch": some.random() < 0.4, "decimal": some.random() < 0.6}
+    return Media(size or some.choice(SIZES), *files, *protects, **features)
 
 
 def two_blocks(some):

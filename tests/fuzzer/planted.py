@@ -68,6 +68,63 @@ ERRORS = (
         "2 if at == first + count - 1 else 1",
         "2 if at == first + count else 1",
     ),
+    # Decimal arithmetic and editing.
+    Error(
+        "a zero difference keeps a minus",
+        "lines",
+        "decimal.py",
+        "self.put_packed(first, count, number, number < 0)",
+        "self.put_packed(first, count, number, number <= 0)",
+    ),
+    Error(
+        "an overflow drops the sign",
+        "lines",
+        "decimal.py",
+        "self.put_packed(first, count, number, number < 0)",
+        "self.put_packed(first, count, number, -(10 ** digits_in(count)) < number < 0)",
+    ),
+    Error(
+        "a product has the sign of its value",
+        "lines",
+        "decimal.py",
+        "a.number * b.number, a.is_minus != b.is_minus)",
+        "a.number * b.number, a.number * b.number < 0)",
+    ),
+    Error(
+        "a remainder has the sign of the quotient",
+        "lines",
+        "decimal.py",
+        "rest_count, rest, dividend.is_minus)",
+        "rest_count, rest, dividend.is_minus != divisor.is_minus)",
+    ),
+    Error(
+        "a quotient may have a digit more",
+        "lines",
+        "decimal.py",
+        "if quotient >= 10 ** digits_in(count):",
+        "if quotient >= 10 ** (digits_in(count) + 1):",
+    ),
+    Error(
+        "significance stays on at a separator",
+        "lines",
+        "decimal.py",
+        "is_on, is_zero = False, True",
+        "is_zero = True",
+    ),
+    Error(
+        "a plus does not end significance",
+        "lines",
+        "decimal.py",
+        "is_on = (is_shown or pattern == STARTER) and not ends",
+        "is_on = is_shown or pattern == STARTER",
+    ),
+    Error(
+        "a digit that a starter forces is marked",
+        "lines",
+        "decimal.py",
+        "if digit and not is_on:",
+        "if digit and not is_on or is_on and pattern == STARTER:",
+    ),
     # Protection of fetches.
     Error(
         "a fetch bit of zero protects",

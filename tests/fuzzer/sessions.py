@@ -19,8 +19,8 @@ MOST_STORAGE = 16_384
 
 
 class Media(NamedTuple):
-    """What a command line names: the bytes of storage, the files, and what is protected: tapes, and
-    fetches.
+    """What a command line names: the bytes of storage, the files, the tapes that are protected, and
+    the features: protection of fetches, and decimal arithmetic.
 
     A file that is not named is None.
     """
@@ -32,6 +32,7 @@ class Media(NamedTuple):
     protect0: bool = False
     protect1: bool = False
     fetch: bool = False
+    decimal: bool = False
 
     def debugger(self):
         """The debugger of a new machine, or the first fault in the order of the files."""
@@ -45,7 +46,8 @@ class Media(NamedTuple):
         ]
         if self.storage % BLOCK or not LEAST <= self.storage <= MOST:
             raise Fault(2, None)
-        return Debugger(deck, tapes, self.storage, self.fetch)
+        features = {"protects_fetches": self.fetch, "has_decimal": self.decimal}
+        return Debugger(deck, tapes, self.storage, **features)
 
 
 class Fault(Exception):

@@ -10,7 +10,7 @@ from .sessions import outcome_of
 
 # It is made no smaller after so many seconds.
 SECONDS = 120
-OPTIONS = ("protect0", "protect1", "fetch")
+OPTIONS = ("protect0", "protect1", "fetch", "decimal")
 NUMBER = re.compile(rb"[0-9A-Fa-f]+")
 
 

@@ -117,8 +117,8 @@ def shown_state(state):
 
 
 class Channels(Core):
-    def __init__(self, deck=(), tapes=(Tape(), Tape()), size=SIZE, protects_fetches=False):
-        super().__init__(size, protects_fetches)
+    def __init__(self, deck=(), tapes=(Tape(), Tape()), size=SIZE, **features):
+        super().__init__(size, **features)
         devices = (Reader(cards=tuple(deck)), Punch(), Printer(), Console(), *tapes)
         for unit, device in zip(UNITS, devices):
             self.values[device_name(unit)] = device

@@ -33,9 +33,10 @@ class Interruption(Exception):
 class Core:
     """The value of each place by its printed name, zero at first."""
 
-    def __init__(self, size=SIZE, protects_fetches=False):
+    def __init__(self, size=SIZE, protects_fetches=False, has_decimal=False):
         self.size = size
         self.protects_fetches = protects_fetches
+        self.has_decimal = has_decimal
         self.values = {}
         self.noted = {}
 

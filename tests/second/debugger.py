@@ -17,6 +17,11 @@ NO_SUCH_UNIT = "refused 3 no such unit"
 CONDITIONS = {0: "none", 0x80: "timer", 0x40: "key", 0xC0: "timer key"}
 
 
+def features_of(words):
+    """The features of the machine for which words of a command line ask."""
+    return {"protects_fetches": "--fetch" in words, "has_decimal": "--decimal" in words}
+
+
 class Change(NamedTuple):
     """A standing change: its event by name and by what it does, the values before it by place, and
     what it altered."""
@@ -28,8 +33,8 @@ class Change(NamedTuple):
 
 
 class Debugger:
-    def __init__(self, deck=(), tapes=(Tape(), Tape()), size=SIZE, protects_fetches=False):
-        self.machine = Machine(deck, tapes, size, protects_fetches)
+    def __init__(self, deck=(), tapes=(Tape(), Tape()), size=SIZE, **features):
+        self.machine = Machine(deck, tapes, size, **features)
         self.changes = []
         self.breakpoints = set()
 

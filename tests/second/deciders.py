@@ -8,9 +8,11 @@ Source: docs/DECISIONS.md, "Sources".
 from .channels import CAW, DATA_CHAIN, LOAD, SIO, START, TAPES, TEST_CHANNEL, UNITS
 from .channels import Program, device_name, state_name
 from .core import ADDRESSES, BLOCK, Interruption
+from .decimal import COMPARE as COMPARE_DECIMAL
+from .decimal import DIVIDE, EDIT, EDIT_AND_MARK, LONGEST, MULTIPLY, ZERO_AND_ADD
 from .devices import INPUT, OUTPUT, begun
 from .machine import OPERATING
-from .sources import EXECUTE, byte, bytes_at, of_performed, performed_at, register, trial
+from .sources import EXECUTE, byte, bytes_at, edited, of_performed, performed_at, register, trial
 
 # Codes of instructions.
 STORAGE_KEYS = (0x08, 0x09)
@@ -152,7 +154,12 @@ def operands(machine, instruction, put):
         yield from keys_of(machine, key, address, count, code in STORES)
     else:
         table = machine.address(instruction[4:6], 0)
-        yield from of_runs(machine, key, code, second, address, table)
+        if code in (EDIT, EDIT_AND_MARK):
+            yield from of_edit(machine, key, second, address, table)
+        elif ZERO_AND_ADD <= code <= DIVIDE:
+            yield from of_decimal(machine, key, code, second, address, table)
+        else:
+            yield from of_runs(machine, key, code, second, address, table)
 
 
 def is_used(machine, instruction):
@@ -194,6 +201,35 @@ def of_runs(machine, key, code, lengths, first, second):
     yield from stores
     for function in functions:
         yield from keys_of(machine, key, function, 1, is_store=False)
+
+
+def of_decimal(machine, key, code, lengths, first, second):
+    """Of two packed operands: their bytes decide whether a digit is none, unless they cannot be used. Wrong
+    lengths come before all else."""
+    count, other = (lengths >> 4) + 1, (lengths & 15) + 1
+    if code in (MULTIPLY, DIVIDE) and (other > LONGEST or other >= count):
+        return
+    is_store = code != COMPARE_DECIMAL
+    yield from keys_of(machine, key, first, count, is_store)
+    yield from keys_of(machine, key, second, other, is_store=False)
+    try:
+        machine.check_both(first, count, second, other, is_store)
+    except Interruption:
+        return
+    yield from bytes_at(second, other)
+    if code != ZERO_AND_ADD:
+        yield from bytes_at(first, count)
+
+
+def of_edit(machine, key, lengths, first, second):
+    """Of a pattern and the source bytes that it uses: they say which bytes come next, and whether one is none."""
+    if first + lengths + 1 > machine.size:
+        return
+    yield from keys_of(machine, key, first, lengths + 1, is_store=True)
+    for _, used in edited(machine, lengths, first, second):
+        yield from used
+    sources = [source for source in machine.edited.values() if source is not None]
+    yield from keys_of(machine, key, second, len(sources), is_store=False)
 
 
 def of_input_output(machine, code, address):

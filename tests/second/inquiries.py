@@ -31,9 +31,15 @@ ROWS_OF_MNEMONICS = {
     0xDC: "TR TRT",
     0xF1: "MVO PACK UNPK",
 }
-MNEMONICS = {
-    first + i: [name] for first, names in ROWS_OF_MNEMONICS.items() for i, name in enumerate(names.split()) if name != "-"
-}
+DECIMAL_MNEMONICS = {0xDE: "ED EDMK", 0xF8: "ZAP CP AP SP MP DP"}
+
+
+def mnemonics_in(rows):
+    return {first + i: [name] for first, names in rows.items() for i, name in enumerate(names.split()) if name != "-"}
+
+
+MNEMONICS = mnemonics_in(ROWS_OF_MNEMONICS)
+ALL_MNEMONICS = MNEMONICS | mnemonics_in(DECIMAL_MNEMONICS)
 # What the CPU does where it executes no instruction.
 NO_INSTRUCTION = "stopped|loading|interrupted|waits"
 # What is meant where a line with a place has no number behind it.
@@ -372,7 +378,8 @@ class Inquiries:
         code = machine.byte(at)
         length = (2, 4, 4, 6)[code >> 6]
         run = machine.run_of_bytes(at, min(length, machine.size - at))
-        return " ".join([*MNEMONICS.get(code, []), run.hex().upper()])
+        mnemonics = ALL_MNEMONICS if machine.has_decimal else MNEMONICS
+        return " ".join([*mnemonics.get(code, []), run.hex().upper()])
 
     def program(self, unit):
         program = self.machine.unit(unit) if unit in UNITS else None

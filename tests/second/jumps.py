@@ -14,7 +14,7 @@ OLD_PSW = 0x20
 # By the codes of program interruptions, from 1 on.
 EXCEPTIONS = (
     *("operation", "privileged operation", "execute", "protection", "addressing", "specification", "data"),
-    *("fixed-point overflow", "fixed-point divide"),
+    *("fixed-point overflow", "fixed-point divide", "decimal overflow", "decimal divide"),
 )
 
 

@@ -7,7 +7,8 @@ from typing import NamedTuple
 
 from .channels import ENDED, IDLE, Channels, Ended, Program
 from .core import ADDRESSES, BLOCK, DOUBLEWORD, WORD, Interruption, signed
-from .logical import LOGIC, Logical
+from .decimal import Decimal
+from .logical import LOGIC
 
 # The addresses of the old and the new PSW.
 EXTERNAL, SUPERVISOR, PROGRAM = (24, 88), (32, 96), (40, 104)
@@ -23,7 +24,7 @@ class Loading(NamedTuple):
     unit: int
 
 
-class Machine(Logical, Channels):
+class Machine(Decimal, Channels):
     def step(self):
         """One CPU event."""
         if self.value("run") != OPERATING:

@@ -10,6 +10,8 @@ import random
 from .channels import CAW, CSW, IDLE, READER, START, TAPES, UNITS, Ended, Program
 from .core import ADDRESSES, BLOCK, WORD, signed
 from .debugger import Debugger
+from .decimal import DIVIDE, EDIT, EDIT_AND_MARK, MULTIPLY, SELECTOR, SEPARATOR, STARTER, ZERO_AND_ADD
+from .decimal import digits_in
 from .devices import SIGNS
 from .machine import STOPPED, TIMER, Loading
 from .programs import CHAIN, address_word, chain, deck, image, initial_record, tape
@@ -19,6 +21,7 @@ EDGES += [0xC0000000, 0xFFFF, 0x8000, 0x7FFF, 0xFFFF8000]
 FIXED_POINT = [5, 6, 7, *range(0x10, 0x20), 0x40, 0x41, 0x42, 0x43, *range(0x45, 0x4D), 0x50]
 FIXED_POINT += [*range(0x54, 0x60), *range(0x86, 0x91), 0x98]
 LOGICAL = [0x4E, 0x4F, *range(0x91, 0x98), *range(0xD1, 0xD8), 0xDC, 0xDD, 0xF1, 0xF2, 0xF3]
+DECIMAL = [*[EDIT, EDIT_AND_MARK] * 2, *range(ZERO_AND_ADD, DIVIDE + 1)]
 STATUS = [0x04, 0x08, 0x09, 0x0A, 0x80, 0x82]
 INPUT_OUTPUT = [0x9C, 0x9D, 0x9D, 0x9E, 0x9E, 0x9F]
 # Units that are not configured, the last two of them of channels that are not.
@@ -45,17 +48,18 @@ BEFORE_THE_END = (1, 2, 3, 4, 8, 16, 24, 256)
 class Script:
     """A script, and the answers of the second machine to it."""
 
-    # How often an instruction is of each list.
+    # How often an instruction is of each list, and how often it is a decimal one.
     weights = (30, 30, 10, 16, 12, 2)
+    decimal_weight = 30
 
     def __init__(self, seed):
         self.random = random.Random(seed)
         self.deck = deck(self.random)
         self.tapes = [tape(self.random) for _ in TAPES]
         self.images = [image(self.random, mounted.recorded) for mounted in self.tapes]
-        # Each second one protects fetches.
-        self.protects_fetches = seed % 2 == 0
-        self.debugger = Debugger(self.deck, self.tapes, protects_fetches=self.protects_fetches)
+        # Each second one protects fetches, and of four successive ones two have decimal arithmetic.
+        self.features = {"protects_fetches": seed % 2 == 0, "has_decimal": seed // 2 % 2 == 0}
+        self.debugger = Debugger(self.deck, self.tapes, **self.features)
         self.machine = self.debugger.machine
         self.lines = []
         self.answers = []
@@ -146,6 +150,8 @@ class Script:
 
     def second_byte(self, code):
         some = self.random
+        if code in DECIMAL:
+            return self.decimal_lengths(code)
         if 0x90 < code < 0x98:
             return some.choice([0, 255, 1 << some.randrange(8), some.getrandbits(8)])
         if code >= 0xC0:
@@ -160,8 +166,9 @@ class Script:
 
     def instruction(self):
         some = self.random
-        lists = [FIXED_POINT, LOGICAL, STATUS, INPUT_OUTPUT, [EXECUTE], range(256)]
-        code = some.choice(some.choices(lists, self.weights)[0])
+        lists = [FIXED_POINT, LOGICAL, STATUS, INPUT_OUTPUT, [EXECUTE], range(256), DECIMAL]
+        decimal_weight = self.decimal_weight if self.machine.has_decimal else 1
+        code = some.choice(some.choices(lists, [*self.weights, decimal_weight])[0])
         first = self.field()
         if code in INPUT_OUTPUT and some.random() < 0.9:
             first = some.choice([*UNITS * 4, *OTHER_UNITS, *self.units_with(Ended) * 8])
@@ -172,6 +179,53 @@ class Script:
         fields = [code, self.second_byte(code), *first.to_bytes(2, "big")]
         fields += self.field_beside(first).to_bytes(2, "big")
         return bytes(fields[: 2 if code < 0x40 else 4 if code < 0xC0 else 6])
+
+    def decimal_lengths(self, code):
+        """The length field: mostly a pair of short ones, or of an edit a length of some bytes."""
+        some = self.random
+        if code in (EDIT, EDIT_AND_MARK):
+            return some.choice([some.randrange(4), some.randrange(20), some.randrange(60), 255])
+        l1, l2 = (some.choice([some.randrange(4), some.randrange(16)]) for _ in range(2))
+        if code >= MULTIPLY and some.random() < 0.85:
+            l1, l2 = max(l1, l2 % 8 + 1), l2 % 8
+        return l1 << 4 | l2
+
+    def decimal_operands(self, instruction):
+        """Two operands of an instruction: packed numbers, or of an edit a pattern and its source."""
+        code, lengths = instruction[:2]
+        if code in (EDIT, EDIT_AND_MARK):
+            return self.pattern(lengths + 1), self.source()
+        count, second_count = (lengths >> 4) + 1, (lengths & 15) + 1
+        room = count - second_count if code == MULTIPLY else count
+        return self.packed_in(count, max(room, 1)), self.packed_in(second_count, second_count)
+
+    def packed_in(self, count, room):
+        """A packed number of so many bytes, most of whose digits stand in so many of them."""
+        some = self.random
+        digits = digits_in(count)
+        most = 10 ** min(digits, 2 * room)
+        edges = [0, 1, most - 1, most // 2, some.randrange(100) % most, 10 ** (digits // 2)]
+        number = some.choice([some.choice(edges), some.randrange(most)])
+        text = f"{number:0{digits}d}"[-digits:] + some.choice("AABBCCCDDDEF")
+        if some.random() < 0.1:
+            at = some.randrange(len(text))
+            text = f"{text[:at]}{some.randrange(16):X}{text[at + 1 :]}"
+        return bytes.fromhex(text)
+
+    def pattern(self, count):
+        """A fill byte, and bytes that take digits, begin fields or stand for themselves."""
+        some = self.random
+        kinds = [SELECTOR] * some.choice([1, 6, 12]) + [STARTER, 0x6B, 0x4B, 0xC3]
+        kinds += [SEPARATOR] * some.choice([0, 1, 3])
+        fill = some.choice([0x40, 0x5C, *kinds])
+        return bytes([fill, *some.choices(kinds, k=count - 1)])
+
+    def source(self):
+        """Packed numbers one after another, some with a byte that is none among them."""
+        some = self.random
+        counts = [some.randint(1, 5) for _ in range(some.randint(1, 12))]
+        run = b"".join(self.packed_in(count, some.randint(1, count)) for count in counts)
+        return run if some.random() < 0.9 else run[: some.randrange(len(run))] + b"\xc0" + run
 
     def addresses(self, instruction):
         index = instruction[1] & 15 if 0x40 <= instruction[0] < 0x80 else 0
@@ -186,6 +240,11 @@ class Script:
         """Operands where the instruction takes them, or of an EX its subject with its operands."""
         if instruction[0] in STORAGE_KEYS and self.random.random() < 0.8:
             self.patch_block(instruction[1] & 15)
+        if instruction[0] in DECIMAL and self.random.random() < 0.95:
+            operands = self.decimal_operands(instruction)
+            for at, run in zip(self.addresses(instruction), operands):
+                self.patch_inside(at, run)
+            return
         for at in self.addresses(instruction):
             if instruction[0] == EXECUTE:
                 subject = self.instruction()

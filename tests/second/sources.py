@@ -11,6 +11,7 @@ import contextlib
 from .channels import CAW, CSW, ENDED, PROGRAM_CHECK, PROTECTION_CHECK, UNITS
 from .channels import DATA_CHAIN, LOAD, SIO, Channels, Ended, Program, device_name, state_name
 from .core import ADDRESSES, BLOCK, Interruption
+from .decimal import COMPARE, DIVIDE, EDIT, EDIT_AND_MARK, MULTIPLY, ZERO_AND_ADD
 from .devices import OUTPUT, begun
 from .machine import EXTERNAL, INPUT_OUTPUT, OPERATING, PROGRAM, SUPERVISOR, TIMER, Loading
 
@@ -134,7 +135,10 @@ def of_performed(machine, instruction, put):
         parts = [part for part in (other, instruction[2] >> 4) if part]
         return of_word(code, r1, address, list(map(register, parts)))
     if code >= 0xC0:
-        return of_runs(machine, code, second, address, machine.address(instruction[4:6], 0))
+        other = machine.address(instruction[4:6], 0)
+        if code in (EDIT, EDIT_AND_MARK):
+            return of_edit(machine, second, address, other, put)
+        return of_runs(machine, code, second, address, other)
     if code >= 0x9C:
         stored = [place for place in put if place[0] == "s"]
         return dict.fromkeys(stored, [state_name(address & 0x7FF), *bytes_at(CAW, 4)])
@@ -268,7 +272,8 @@ def of_runs(machine, code, lengths, first, second):
             searched = range(tested[0] + 1 if tested else count)
             found = [byte(at) for i in searched for at in (first + i, function(i))]
             return {place: [place, *found] for place in ("r1", "r2", "p")}
-    return of_digits(code, lengths, first, second)
+    made = of_decimal if ZERO_AND_ADD <= code <= DIVIDE else of_digits
+    return made(code, lengths, first, second)
 
 
 def of_digits(code, lengths, first, second):
@@ -295,6 +300,36 @@ def of_digits(code, lengths, first, second):
                 found = ["p", *fetch((i + 1) // 2)] if i else fetch(0)
         made[place] = list(dict.fromkeys(found))
     return made
+
+
+def of_decimal(code, lengths, first, second):
+    """Decimal arithmetic: each byte of the result is made of both operands and the mode of the PSW."""
+    count, other_count = (lengths >> 4) + 1, (lengths & 15) + 1
+    operands = bytes_at(second, other_count)
+    if code != ZERO_AND_ADD:
+        operands += bytes_at(first, count)
+    stored = dict.fromkeys(bytes_at(first, 0 if code == COMPARE else count), ["p", *operands])
+    return stored if code in (MULTIPLY, DIVIDE) else stored | {"p": ["p", *operands]}
+
+
+def edited(machine, lengths, first, second):
+    """The bytes of a pattern that an edit comes to, each with the bytes that it has used by then. A byte of the
+    source that was stored before is made of bytes that it has used."""
+    used = []
+    with trial(machine), contextlib.suppress(Interruption):
+        machine.edit(first, lengths + 1, second, False)
+    for at, source in machine.edited.items():
+        used.append(byte(at))
+        if source is not None and source < machine.size and not first <= source < at:
+            used.append(byte(source))
+        yield byte(at), [*used]
+
+
+def of_edit(machine, lengths, first, second, put):
+    """ED and EDMK, of which the latter puts an address into register 1."""
+    made = {place: ["p", *used] for place, used in edited(machine, lengths, first, second)}
+    *_, (_, used) = edited(machine, lengths, first, second)
+    return made | {place: [place, "p", *used] for place in ("r1", "p") if place in put}
 
 
 def left_to_right(first, count, operands):

@@ -10,9 +10,11 @@ use Rattle.s360_fixed.specs.Storing.{register_distance, with_registers_loaded, w
 abbrev pub PutsNothing : {S : Type 0} → Ghosts S → S → View → Type 0
 PutsNothing p puts v = HasNoPuts v.core (p.made puts) (p.may puts) (p.past puts) (p.count puts)
 
--- what may be put behind an instruction: all behind one that the channels do; the PSW, and bytes of storage as it was, behind one that an interruption follows
+-- what may be put behind an instruction: all behind one that the channels do; the PSW, and bytes of storage as it was, behind one that an interruption follows,
+-- but for a decimal overflow, which comes after bytes were put
 abbrev pub MayFollow : {S : Type 0} → Ghosts S → S → Core → Ended → Type 0
 MayFollow p puts m Ended.Done = Unit {0}
+MayFollow p puts m Ended.DecimalOverflow = Unit {0}
 MayFollow p puts m (Ended.Io operation unit) = HasNoPuts m (p.made puts) (p.may puts) (p.past puts) (p.count puts)
 MayFollow p puts m other = ((p.made puts m).storage ≡ m.storage) × ((a : ℕ) → p.past puts (Byte a))
 

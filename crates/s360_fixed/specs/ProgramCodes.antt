@@ -12,9 +12,11 @@ number_of_code ProgramCode.Specification = 6
 number_of_code ProgramCode.Data = 7
 number_of_code ProgramCode.FixedPointOverflow = 8
 number_of_code ProgramCode.FixedPointDivide = 9
+number_of_code ProgramCode.DecimalOverflow = 0xA
+number_of_code ProgramCode.DecimalDivide = 0xB
 
--- what keeps an instruction from being done. Three things more are found where they arise, after all of these that can be met there: a code that is no
--- operation, a subject of an execute that is an execute, and a digit or sign that is none
+-- what keeps an instruction from being done. Four things more are found where they arise, after all of these that can be met there: a code that is no
+-- operation, a subject of an execute that is an execute, a digit or sign that is none, and a decimal quotient that does not fit
 pub record Conditions : Type 0 where
   -- it is privileged, in the problem state
   pub privileged : Bool

@@ -1,5 +1,5 @@
 -- The operation codes with their formats and operations (GA22-6821, "Operation Codes"), and the fields of formats ("System Structure", program execution).
-use Rattle.std.specs.Prelude.{ℕ, ◌+◌, ◌*◌, ◌/◌, ◌%◌, nat_lt, if◌then◌else◌, Option, List, [], ◌∷◌, slice_index, option_map}
+use Rattle.std.specs.Prelude.{ℕ, Bool, ◌+◌, ◌*◌, ◌/◌, ◌%◌, nat_lt, if◌then◌else◌, Option, List, [], ◌∷◌, ◌++◌, slice_index, option_map}
 use Rattle.s360_model.specs.Tables.{entry_in}
 use Rattle.s360_fixed.specs.declared.{operation.Operation.Operation, form.Format.Format, form.Entry.Entry, form.Form.Form}
 use Rattle.s360_fixed.specs.declared.form.Format.TheVariants.{Rr, Rx, Rs, Si, Ss}
@@ -100,9 +100,22 @@ rows =
     ∷ row 0xF3 Ss Operation.Unpack
     ∷ []
 
--- the format and the operation of a code, by the rows
-abbrev pub entry_of : ℕ → Option Entry
-entry_of code = entry_in rows code
+-- what a machine with the decimal feature has beside them
+abbrev pub decimal_rows : List (ℕ × Entry)
+decimal_rows =
+    row 0xDE Ss Operation.Edit
+    ∷ row 0xDF Ss Operation.EditAndMark
+    ∷ row 0xF8 Ss Operation.ZeroAndAdd
+    ∷ row 0xF9 Ss Operation.CompareDecimal
+    ∷ row 0xFA Ss Operation.AddDecimal
+    ∷ row 0xFB Ss Operation.SubtractDecimal
+    ∷ row 0xFC Ss Operation.MultiplyDecimal
+    ∷ row 0xFD Ss Operation.DivideDecimal
+    ∷ []
+
+-- the format and the operation of a code, by the rows of a machine with the decimal feature or without it
+abbrev pub entry_of : Bool → ℕ → Option Entry
+entry_of decimal code = entry_in (if decimal then decimal_rows ++ rows else rows) code
 
 -- the length of an instruction in bytes, by the first two bits of its code: 2 for 00, 4 for 01 and 10, 6 for 11
 abbrev pub instruction_length : ℕ → ℕ
@@ -133,6 +146,6 @@ form_with Rs op bytes = Form.Rs op (high_digit bytes 1) (low_digit bytes 1) (hig
 form_with Si op bytes = Form.Si op (slice_index bytes 1) (high_digit bytes 2) (displacement_at bytes 2)
 form_with Ss op bytes = Form.Ss op (slice_index bytes 1) (high_digit bytes 2) (displacement_at bytes 2) (high_digit bytes 4) (displacement_at bytes 4)
 
--- the instruction that bytes are; none where their first is no operation code
-abbrev pub form_of : List ℕ → Option Form
-form_of bytes = option_map (λ (e : Entry). form_with e.format e.operation bytes) (entry_of (slice_index bytes 0))
+-- the instruction that bytes are in a machine with the decimal feature or without it; none where their first is no operation code
+abbrev pub form_of : Bool → List ℕ → Option Form
+form_of decimal bytes = option_map (λ (e : Entry). form_with e.format e.operation bytes) (entry_of decimal (slice_index bytes 0))

@@ -1,7 +1,8 @@
 //! The length of an instruction, and its operation and fields from its bytes. Source: GA22-6821,
 //! "System Structure", program execution, and "Operation Codes".
-ghost use Rattle.std.specs.Prelude.{◌≡◌, ◌<◌, ◌≤◌, ◌+◌, IfSome, Some, length, slice_index};
-ghost use Rattle.s360_fixed.specs.Table.{bytes_of_format, displacement_at, entry_of, form_of, form_with};
+ghost use Rattle.std.specs.Prelude.{◌≡◌, ◌<◌, ◌≤◌, ◌+◌, IfSome, Some, false, length, slice_index};
+ghost use Rattle.s360_model.specs.Tables.{entry_in};
+ghost use Rattle.s360_fixed.specs.Table.{bytes_of_format, decimal_rows, displacement_at, entry_of, form_of, form_with};
 ghost use Rattle.s360_fixed.specs.Table.{high_digit, instruction_length, low_digit};
 ghost use Rattle.arrayvec.specs.ArrayVec.{array_vec_len};
 
@@ -29,9 +30,9 @@ const fn entry(format: Format, operation: Operation) -> Option<Entry>
     Some(Entry { format, operation })
 }
 
-/// The format and the operation of a code.
+/// The format and the operation of a code that every machine has.
 fn entry_at(code: u8) -> Option<Entry>
-    ensures entry { result ≡ entry_of code }
+    ensures entry { result ≡ entry_of false code }
     ensures length { IfSome result (λ e. bytes_of_format e.format ≡ instruction_length code) }
 {
     match code {
@@ -127,6 +128,37 @@ fn entry_at(code: u8) -> Option<Entry>
     }
 }
 
+/// The format and the operation of a code of the decimal feature.
+fn decimal_entry_at(code: u8) -> Option<Entry>
+    ensures entry { result ≡ entry_in decimal_rows code }
+    ensures length { IfSome result (λ e. bytes_of_format e.format ≡ instruction_length code) }
+{
+    match code {
+        0xDE => entry(Format::Ss, Operation::Edit),
+        0xDF => entry(Format::Ss, Operation::EditAndMark),
+        0xF8 => entry(Format::Ss, Operation::ZeroAndAdd),
+        0xF9 => entry(Format::Ss, Operation::CompareDecimal),
+        0xFA => entry(Format::Ss, Operation::AddDecimal),
+        0xFB => entry(Format::Ss, Operation::SubtractDecimal),
+        0xFC => entry(Format::Ss, Operation::MultiplyDecimal),
+        0xFD => entry(Format::Ss, Operation::DivideDecimal),
+        _ => None,
+    }
+}
+
+/// The format and the operation of a code in a machine with the decimal feature or without it.
+fn entry_with(decimal: bool, code: u8) -> Option<Entry>
+    ensures entry { result ≡ entry_of decimal code }
+    ensures length { IfSome result (λ e. bytes_of_format e.format ≡ instruction_length code) }
+{
+    if decimal {
+        if let Some(entry) = decimal_entry_at(code) {
+            return Some(entry);
+        }
+    }
+    entry_at(code)
+}
+
 /// The register that the high digit of a byte names.
 #[inline(always)]
 pub fn high_register(bytes: &[u8], i: usize) -> RegisterNumber
@@ -196,21 +228,22 @@ fn form_with(format: Format, operation: Operation, bytes: &[u8]) -> Form
     }
 }
 
-/// The instruction that bytes are: `None` exactly where the first is no operation code.
-pub fn decode(bytes: &ArrayVec<u8, 6>) -> Option<Form>
+/// The instruction that bytes are in a machine with the decimal feature or without it: `None` exactly where the
+/// first is no operation code.
+pub fn decode(decimal: bool, bytes: &ArrayVec<u8, 6>) -> Option<Form>
     requires begun { 0 < array_vec_len bytes.now }
     requires whole { array_vec_len bytes.now ≡ instruction_length (slice_index bytes.now.items 0) }
-    ensures { result ≡ form_of bytes.now.items }
+    ensures { result ≡ form_of decimal bytes.now.items }
 {
-    decode_bytes(bytes.as_slice())
+    decode_bytes(decimal, bytes.as_slice())
 }
 
-/// The instruction that bytes are, where they stand in storage.
-pub fn decode_bytes(bytes: &[u8]) -> Option<Form>
+/// The same, where they stand in storage.
+pub fn decode_bytes(decimal: bool, bytes: &[u8]) -> Option<Form>
     requires begun { 0 < length bytes.now }
     requires whole { length bytes.now ≡ instruction_length (slice_index bytes.now 0) }
-    ensures { result ≡ form_of bytes.now }
+    ensures { result ≡ form_of decimal bytes.now }
 {
-    let entry = entry_at(bytes[0])?;
+    let entry = entry_with(decimal, bytes[0])?;
     Some(form_with(entry.format, entry.operation, bytes))
 }

@@ -1,6 +1,6 @@
 //! The operations of the instruction set, under their names in the standard. Source: GA22-6821,
-//! "Fixed-Point Arithmetic", "Logical Operations", "Branching", "Status Switching" and "Input/Output
-//! Operations".
+//! "Fixed-Point Arithmetic", "Decimal Arithmetic", "Logical Operations", "Branching", "Status
+//! Switching" and "Input/Output Operations".
 
 /// What an instruction does. Instructions of different formats may share it: AR and A both add.
 #[derive(Clone, Copy, PartialEq, Eq)]
@@ -133,4 +133,20 @@ pub enum Operation {
     Pack,
     /// UNPK.
     Unpack,
+    /// ED.
+    Edit,
+    /// EDMK.
+    EditAndMark,
+    /// ZAP.
+    ZeroAndAdd,
+    /// CP.
+    CompareDecimal,
+    /// AP.
+    AddDecimal,
+    /// SP.
+    SubtractDecimal,
+    /// MP.
+    MultiplyDecimal,
+    /// DP.
+    DivideDecimal,
 }

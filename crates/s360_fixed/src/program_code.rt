@@ -26,6 +26,10 @@ pub enum ProgramCode {
     FixedPointOverflow,
     /// Code 9: a quotient, or a converted number, that does not fit.
     FixedPointDivide,
+    /// Code A: a decimal result that loses digits, where its mask is one.
+    DecimalOverflow,
+    /// Code B: a decimal quotient that does not fit, or a zero divisor.
+    DecimalDivide,
 }
 
 impl ProgramCode {
@@ -40,7 +44,7 @@ impl ProgramCode {
         }
     }
 
-    /// The code's number, 1 to 9.
+    /// The code's number, 1 to 11.
     pub fn number(self) -> u16
         ensures { result ≡ number_of_code self }
     {
@@ -54,6 +58,8 @@ impl ProgramCode {
             ProgramCode::Data => 7,
             ProgramCode::FixedPointOverflow => 8,
             ProgramCode::FixedPointDivide => 9,
+            ProgramCode::DecimalOverflow => 0xA,
+            ProgramCode::DecimalDivide => 0xB,
         }
     }
 }

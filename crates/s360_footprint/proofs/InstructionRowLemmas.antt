@@ -121,26 +121,26 @@ subject-is rows next length (Some form) m are =
 
 -- an execute
 abbrev row_of_subject : FormRows → Machine → ℕ → ℕ → ℕ → InstructionLength → Row Ended
-row_of_subject rows m r1 address next length = bind (subject_read r1 address) (λ bytes. subject_row rows (profile_of m.core) next length (form_of bytes))
+row_of_subject rows m r1 address next length = bind (subject_read r1 address) (λ bytes. subject_row rows (profile_of m.core) next length (form_of m.core.decimal bytes))
 
 execute-fetched : (rows : FormRows) (r1 address next : ℕ) (length : InstructionLength) (m : Machine) → RowsAre rows m
     → address + length_at m.core.storage address ≤ size m
     → happened (row_of_subject rows m r1 address next length) m
-    ≡ with_outcome m (subject_outcome (view_in m next length) (form_of (subject_bytes (view_in m next length) r1 address)))
+    ≡ with_outcome m (subject_outcome (view_in m next length) (form_of m.core.decimal (subject_bytes (view_in m next length) r1 address)))
 execute-fetched rows r1 address next length m are inside =
     let v : View = view_in m next length
     in let bytes : run (subject_read r1 address) m ≡ subject_bytes v r1 address
     = run-bind (instruction_read address) (ored_read r1) m
     ∙ ap (λ bytes. run (ored_read r1 bytes) m) (instruction-bytes-are address m inside)
     ∙ ored-is r1 (instruction_bytes m.core.storage address) v m refl
-    in happened-bind (subject_read r1 address) (λ bytes. subject_row rows (profile_of m.core) next length (form_of bytes)) m (subject_bytes v r1 address) bytes
-    ∙ subject-is rows next length (form_of (subject_bytes v r1 address)) m are
+    in happened-bind (subject_read r1 address) (λ bytes. subject_row rows (profile_of m.core) next length (form_of m.core.decimal bytes)) m (subject_bytes v r1 address) bytes
+    ∙ subject-is rows next length (form_of m.core.decimal (subject_bytes v r1 address)) m are
 
 execute-met : (rows : FormRows) (r1 address next : ℕ) (length : InstructionLength) (m : Machine) → RowsAre rows m → (o : Option ProgramCode)
     → program_code (fetch_conditions m.core.storage address (protection_key_of m.core.psw)) ≡ o
     → happened (unless_refused o (row_of_subject rows m r1 address next length)) m
     ≡ with_outcome m (option_map_or (λ code. record { ended = Ended.Program code; core = m.core }) o
-    (subject_outcome (view_in m next length) (form_of (subject_bytes (view_in m next length) r1 address))))
+    (subject_outcome (view_in m next length) (form_of m.core.decimal (subject_bytes (view_in m next length) r1 address))))
 execute-met rows r1 address next length m are None e =
     execute-fetched rows r1 address next length m are (fetched-inside m.core address (protection_key_of m.core.psw) e)
 execute-met rows r1 address next length m are (Some code) e = refl
@@ -188,15 +188,15 @@ coded-is : (rows : FormRows) (address : ℕ) (m : Machine) → RowsAre rows m �
     → happened (coded_row rows (profile_of m.core) address (length_at m.core.storage address)) m
     ≡ ends_with (address + length_at m.core.storage address) (length_of_bytes (length_at m.core.storage address))
     (with_outcome m (fetched_outcome (view_in m (address + length_at m.core.storage address) (length_of_bytes (length_at m.core.storage address)))
-    (form_of (instruction_bytes m.core.storage address))))
+    (form_of m.core.decimal (instruction_bytes m.core.storage address))))
 coded-is rows address m are inside =
     let count : ℕ = length_at m.core.storage address
     in let next : ℕ = address + count
     in let length : InstructionLength = length_of_bytes count
-    in happened-bind (bytes_read address count) (λ bytes. bind (fetched_row rows (profile_of m.core) next length (form_of bytes)) (ending_with next length)) m
+    in happened-bind (bytes_read address count) (λ bytes. bind (fetched_row rows (profile_of m.core) next length (form_of m.core.decimal bytes)) (ending_with next length)) m
     (instruction_bytes m.core.storage address) (instruction-bytes-are address m inside)
-    ∙ ending-with (fetched_row rows (profile_of m.core) next length (form_of (instruction_bytes m.core.storage address))) next length m
-    ∙ ap (ends_with next length) (fetched-is rows next length (form_of (instruction_bytes m.core.storage address)) m are)
+    ∙ ending-with (fetched_row rows (profile_of m.core) next length (form_of m.core.decimal (instruction_bytes m.core.storage address))) next length m
+    ∙ ap (ends_with next length) (fetched-is rows next length (form_of m.core.decimal (instruction_bytes m.core.storage address)) m are)
 
 -- an instruction, by what keeps it from being fetched
 abbrev view_with : Option ProgramCode → Core → ℕ → View
@@ -208,7 +208,7 @@ view_with o m address =
 abbrev instruction_with : Option ProgramCode → Core → ℕ → Instruction
 instruction_with o m address = record {
   outcome = option_map_or (λ code. record { ended = Ended.Program code; core = m }) o
-      (fetched_outcome (view_with o m address) (form_of (instruction_bytes m.storage address)));
+      (fetched_outcome (view_with o m address) (form_of m.decimal (instruction_bytes m.storage address)));
   next_address = (view_with o m address).next_address;
   instruction_length = (view_with o m address).instruction_length;
 }

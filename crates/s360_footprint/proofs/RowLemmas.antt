@@ -90,7 +90,7 @@ values-stored (s ∷ ss) p r before m t h =
     (there-alike m next p (alike-sym next m (sizes-kept m s.place (run s.value before))) t) (value-stored s.place p s.value r before m t h)
 
 pub sizes-stored : (before m : Machine) (ss : List Store) → AreAlike (with_stores before m ss) m
-sizes-stored before m [] = record { registers = refl; bytes = refl; keys = refl; option = refl; units = refl }
+sizes-stored before m [] = record { registers = refl; bytes = refl; keys = refl; option = refl; decimal = refl; units = refl }
 sizes-stored before m (s ∷ ss) =
     let next : Machine = with_value_there m s.place (run s.value before)
     in alike-trans (with_stores before next ss) next m (sizes-stored before next ss) (sizes-kept m s.place (run s.value before))

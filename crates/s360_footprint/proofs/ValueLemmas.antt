@@ -92,14 +92,14 @@ lengths None v us = refl
 lengths (Some u) v us = length-set us (index_of u) v
 
 pub sizes-kept : (m : Machine) (q : Place) (v : Value q) → AreAlike (with_value_there m q v) m
-sizes-kept m (Register n) v = record { registers = length-set m.core.registers n v; bytes = refl; keys = refl; option = refl; units = refl }
-sizes-kept m (Byte a) v = record { registers = refl; bytes = length-set m.core.storage.bytes a v; keys = refl; option = refl; units = refl }
-sizes-kept m (Key b) v = record { registers = refl; bytes = refl; keys = length-set m.core.storage.keys b v; option = refl; units = refl }
-sizes-kept m (UnitState u) v = record { registers = refl; bytes = refl; keys = refl; option = refl; units = lengths (unit_at u.0) v m.units }
-sizes-kept m q v = record { registers = refl; bytes = refl; keys = refl; option = refl; units = refl }
+sizes-kept m (Register n) v = record { registers = length-set m.core.registers n v; bytes = refl; keys = refl; option = refl; decimal = refl; units = refl }
+sizes-kept m (Byte a) v = record { registers = refl; bytes = length-set m.core.storage.bytes a v; keys = refl; option = refl; decimal = refl; units = refl }
+sizes-kept m (Key b) v = record { registers = refl; bytes = refl; keys = length-set m.core.storage.keys b v; option = refl; decimal = refl; units = refl }
+sizes-kept m (UnitState u) v = record { registers = refl; bytes = refl; keys = refl; option = refl; decimal = refl; units = lengths (unit_at u.0) v m.units }
+sizes-kept m q v = record { registers = refl; bytes = refl; keys = refl; option = refl; decimal = refl; units = refl }
 
 pub alike-sym : (m n : Machine) → AreAlike m n → AreAlike n m
-alike-sym m n h = record { registers = sym h.registers; bytes = sym h.bytes; keys = sym h.keys; option = sym h.option; units = sym h.units }
+alike-sym m n h = record { registers = sym h.registers; bytes = sym h.bytes; keys = sym h.keys; option = sym h.option; decimal = sym h.decimal; units = sym h.units }
 
 pub alike-trans : (m n k : Machine) → AreAlike m n → AreAlike n k → AreAlike m k
 alike-trans m n k g h = record {
@@ -107,6 +107,7 @@ alike-trans m n k g h = record {
   bytes = g.bytes ∙ h.bytes;
   keys = g.keys ∙ h.keys;
   option = g.option ∙ h.option;
+  decimal = g.decimal ∙ h.decimal;
   units = g.units ∙ h.units;
 }
 

@@ -1,5 +1,5 @@
 -- The row of each instruction that was fetched and is no execute, by its format and its operation (GA22-6821, "System Structure", program execution).
-use Rattle.std.specs.Prelude.{ℕ, ◌+◌, ◌/◌, ◌%◌, Option, None, Some}
+use Rattle.std.specs.Prelude.{ℕ, ◌+◌, Option, None, Some}
 use Rattle.s360_psw.specs.declared.instruction_length.InstructionLength.{InstructionLength}
 use Rattle.s360_fixed.specs.declared.{ended.Ended.Ended, form.Form.Form}
 use Rattle.s360_fixed.specs.declared.program_code.ProgramCode.TheVariants.{Operation as operation_code}
@@ -9,7 +9,8 @@ use Rattle.s360_logic.specs.declared.row.{Conversion.Conversion, ImmediateRow.Im
 use Rattle.s360_logic.specs.declared.row.{StorageStatus.StorageStatus}
 use Rattle.s360_logic.specs.Rows.{conversion_of, immediate_row_of, register_status_of, storage_row_of, storage_status_of}
 use Rattle.s360_footprint.specs.Altering.{refused}
-use Rattle.s360_footprint.specs.DigitRows.{digits_row}
+use Rattle.s360_logic.specs.Bytes.{first_field, second_field}
+use Rattle.s360_footprint.specs.{DecimalRows.decimal_row, DigitRows.digits_row, EditRows.edit_row}
 use Rattle.s360_footprint.specs.InstructionRows.{FormRows}
 use Rattle.s360_footprint.specs.LeftToRightRows.{combine_row, compare_row, translate_and_test_row, translate_row}
 use Rattle.s360_footprint.specs.OperandReadings.{Profile, address_read, register_operand, second_operand_read}
@@ -60,7 +61,9 @@ storage_row p StorageRow.Compare l first second next = compare_row p first secon
 storage_row p StorageRow.Translate l first second next = translate_row p first second (l + 1) next
 storage_row p StorageRow.TranslateAndTest l first second next = translate_and_test_row p first second (l + 1) next
 storage_row p (StorageRow.Digits row) l first second next =
-    digits_row p row (record { address = first; count = l / 16 + 1 }) (record { address = second; count = l % 16 + 1 }) next
+    digits_row p row (first_field l first) (second_field l second) next
+storage_row p (StorageRow.Decimal row) l first second next = decimal_row p row (first_field l first) (second_field l second) next
+storage_row p (StorageRow.Edit row) l first second next = edit_row p row first second (l + 1) next
 
 abbrev pub converting : Profile → ℕ → Reading ℕ → ℕ → Option Conversion → Option (Row Ended)
 converting p r1 parts next None = None

@@ -70,7 +70,7 @@ subject_row rows p next length (Some form) = unless_execute (execute_of form) (r
 abbrev pub execute_row : FormRows → Profile → ℕ → ℕ → ℕ → InstructionLength → Row Ended
 execute_row rows p r1 address next length =
     bind (fetch_conditions_read p address) (λ c.
-    unless_refused (program_code c) (bind (subject_read r1 address) (λ bytes. subject_row rows p next length (form_of bytes))))
+    unless_refused (program_code c) (bind (subject_read r1 address) (λ bytes. subject_row rows p next length (form_of p.decimal bytes))))
 
 -- an instruction that was fetched, or its subject
 abbrev pub executed_row : FormRows → Profile → ℕ → InstructionLength → Row Ended → Option ExecuteFields → Row Ended
@@ -99,7 +99,7 @@ abbrev pub coded_row : FormRows → Profile → ℕ → ℕ → Row InstructionE
 coded_row rows p address count =
     let next = address + count
     in let length = length_of_bytes count
-    in bind (bytes_read address count) (λ bytes. bind (fetched_row rows p next length (form_of bytes)) (ending_with next length))
+    in bind (bytes_read address count) (λ bytes. bind (fetched_row rows p next length (form_of p.decimal bytes)) (ending_with next length))
 
 abbrev pub unless_unfetched : FormRows → Profile → ℕ → Option ProgramCode → Row InstructionEnd
 unless_unfetched rows p address None = read (Byte address) (λ code. coded_row rows p address (instruction_length code))

@@ -7,7 +7,7 @@ use Rattle.s360_psw.specs.declared.instruction_length.InstructionLength.{Instruc
 use Rattle.s360_psw.specs.Class.{new_location_of, old_location_of}
 use Rattle.s360_psw.specs.InstructionLength.{length_code_of}
 use Rattle.s360_store.specs.declared.place.Place.TheVariants.{Psw}
-use Rattle.s360_fixed.specs.declared.ended.Ended.{Ended}
+use Rattle.s360_fixed.specs.declared.{ended.Ended.Ended, program_code.ProgramCode.ProgramCode}
 use Rattle.s360_fixed.specs.ProgramCodes.{number_of_code}
 use Rattle.s360_logic.specs.Instruction.{instruction}
 use Rattle.s360_machine.specs.Cpu.{core_after_ended}
@@ -36,6 +36,8 @@ interruption_stores class old = byte_stores (old_location_of class) old 0 8 ++ n
 abbrev pub stores_after : Ended → ℕ → InstructionLength → List Store
 stores_after Ended.Done next length = []
 stores_after (Ended.Program code) next length = interruption_stores Class.Program (old_psw_read next (number_of_code code) length)
+stores_after Ended.DecimalOverflow next length =
+    interruption_stores Class.Program (old_psw_read next (number_of_code ProgramCode.DecimalOverflow) length)
 stores_after (Ended.Svc code) next length = interruption_stores Class.Supervisor (old_psw_read next code length)
 stores_after (Ended.Io operation unit) next length = []
 

@@ -11,6 +11,8 @@ pub mod StoringRows
 pub mod LeftToRightRows
 pub mod StatusRows
 pub mod DigitRows
+pub mod DecimalRows
+pub mod EditRows
 pub mod FormRows
 pub mod InstructionLaws
 pub mod InterruptionRows

@@ -12,14 +12,20 @@ use Rattle.s360_fixed.specs.ProgramCodes.{Conditions, no_conditions}
 use Rattle.s360_machine.specs.Machine.{Machine}
 use Rattle.s360_footprint.specs.Readings.{Reading, bind, done, read, run, value_read}
 
--- what no event alters of storage: how many bytes it has, and how many blocks with a key, and whether fetches are protected
+-- what no event alters: how many bytes storage has, how many blocks with a key, whether fetches are protected, and whether there is the decimal feature
 pub record Profile : Type 0 where
   pub size : ℕ
   pub blocks : ℕ
   pub fetch_protection : Bool
+  pub decimal : Bool
 
 abbrev pub profile_of : Core → Profile
-profile_of m = record { size = length m.storage.bytes; blocks = length m.storage.keys; fetch_protection = m.storage.fetch_protection }
+profile_of m = record {
+  size = length m.storage.bytes;
+  blocks = length m.storage.keys;
+  fetch_protection = m.storage.fetch_protection;
+  decimal = m.decimal;
+}
 
 -- what a base or an index register adds: register 0 is not read
 abbrev pub part_read : ℕ → Reading ℕ

@@ -95,10 +95,11 @@ IsThere m (UnitState u) = MatchOption (unit_at u.0) ⊥ (λ c. index_of c < leng
 IsThere m (UnitMedia u) = Unit {0}
 IsThere m p = IsPlaceOf m.core p
 
--- two machines are of one size and profile: so many registers, bytes, blocks and units, and fetches protected in both or in neither
+-- two machines are of one size and profile: so many registers, bytes, blocks and units, and in both or in neither fetches protected and the decimal feature
 pub record AreAlike (m n : Machine) : Type 0 where
   pub registers : length m.core.registers ≡ length n.core.registers
   pub bytes : length m.core.storage.bytes ≡ length n.core.storage.bytes
   pub keys : length m.core.storage.keys ≡ length n.core.storage.keys
   pub option : m.core.storage.fetch_protection ≡ n.core.storage.fetch_protection
+  pub decimal : m.core.decimal ≡ n.core.decimal
   pub units : length m.units ≡ length n.units

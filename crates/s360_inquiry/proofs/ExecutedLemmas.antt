@@ -28,7 +28,7 @@ performed-of-core : (v w : View) (form : Option Form) → v.core ≡ w.core → 
 performed-of-core v w form e = ap (λ (m : Core). performed_if (view_with_core w m) form) e
 
 performed-there : (v : View) (form : Option Form) (a : ℕ) → program_code (fetch_conditions v.core.storage a (protection_key_of v.core.psw)) ≡ None
-    → form ≡ form_of (instruction_bytes v.core.storage a) → performed_if v form ≡ performed_at v.core a
+    → form ≡ form_of v.core.decimal (instruction_bytes v.core.storage a) → performed_if v form ≡ performed_at v.core a
 performed-there v form a met is =
     let seen : View = record {
       core = v.core;
@@ -39,12 +39,12 @@ performed-there v form a met is =
 
 -- what is performed of an instruction that was fetched from this storage with this key
 pub performed-fetched : (v : View) (form : Option Form) (a key : ℕ) (s : Storage) → s ≡ v.core.storage → a ≡ instruction_address_of v.core.psw
-    → key ≡ protection_key_of v.core.psw → program_code (fetch_conditions s a key) ≡ None → form ≡ form_of (instruction_bytes s a)
+    → key ≡ protection_key_of v.core.psw → program_code (fetch_conditions s a key) ≡ None → form ≡ form_of v.core.decimal (instruction_bytes s a)
     → performed_if v form ≡ performed_at v.core (instruction_address_of v.core.psw)
 performed-fetched v form a key s storage address protection met is =
     let same : program_code (fetch_conditions v.core.storage a (protection_key_of v.core.psw)) ≡ None
     = ap (λ (t : Storage). program_code (fetch_conditions t a (protection_key_of v.core.psw))) (sym storage) ∙ ap (λ (k : ℕ). program_code (fetch_conditions s a k)) (sym protection) ∙ met
-    in performed-there v form a same (is ∙ ap (λ (t : Storage). form_of (instruction_bytes t a)) storage) ∙ ap (λ (b : ℕ). performed_at v.core b) address
+    in performed-there v form a same (is ∙ ap (λ (t : Storage). form_of v.core.decimal (instruction_bytes t a)) storage) ∙ ap (λ (b : ℕ). performed_at v.core b) address
 
 pub performed-nowhere : (m : Core) (a : ℕ) (code : ProgramCode) → program_code (fetch_conditions m.storage a (protection_key_of m.psw)) ≡ Some code
     → None ≡ performed_at m a

@@ -23,7 +23,7 @@ unless_execute v (Some form) = if is_none (subject_of v form) then Some form els
 abbrev pub subject_performed : View → ℕ → ℕ → Option Form
 subject_performed v r1 address =
     if is_none (program_code (fetch_conditions v.core.storage address (protection_key_of v.core.psw)))
-    then unless_execute v (form_of (subject_bytes v r1 address)) else None
+    then unless_execute v (form_of v.core.decimal (subject_bytes v r1 address)) else None
 
 -- what is performed of an instruction: itself, or the subject of an execute
 abbrev pub instead_of : View → Form → Option (ℕ × ℕ) → Option Form
@@ -38,7 +38,7 @@ performed_if v (Some form) = instead_of v form (subject_of v form)
 abbrev pub performed_at : Core → ℕ → Option Form
 performed_at m address =
     if is_none (program_code (conditions_at m address))
-    then performed_if (view_at m address) (form_of (instruction_bytes m.storage address)) else None
+    then performed_if (view_at m address) (form_of m.decimal (instruction_bytes m.storage address)) else None
 
 -- the instruction at the instruction address
 abbrev pub executed : Core → Executed

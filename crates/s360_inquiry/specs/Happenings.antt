@@ -37,9 +37,10 @@ abbrev pub fetched_bytes : Storage → ℕ → List ℕ
 fetched_bytes s at = slice_range s.bytes at (min (at + length_at s at) (length s.bytes))
 
 -- an instruction: its mnemonic, where its first byte is an operation code, and its bytes
-abbrev pub instruction_words : Storage → ℕ → List ℕ
-instruction_words s at =
-    if nat_lt at (length s.bytes) then mnemonic_words (mnemonic_of (slice_index s.bytes at)) ++ codes " " ++ hex_bytes (fetched_bytes s at)
+abbrev pub instruction_words : Core → ℕ → List ℕ
+instruction_words m at =
+    if nat_lt at (length m.storage.bytes)
+    then mnemonic_words (mnemonic_of m.decimal (slice_index m.storage.bytes at)) ++ codes " " ++ hex_bytes (fetched_bytes m.storage at)
     else codes " outside"
 
 -- by which class the CPU is interrupted: others than external and input/output come of instructions alone
@@ -52,7 +53,7 @@ abbrev pub case_words : CpuCase → Machine → List ℕ
 case_words Halted m = value_words m Run
 case_words (Interrupted class) m = class_words class
 case_words Waiting m = codes " waits"
-case_words Executing m = instruction_words m.core.storage (instruction_address_of m.core.psw)
+case_words Executing m = instruction_words m.core (instruction_address_of m.core.psw)
 
 unfoldable pub turn_words : Machine → List ℕ
 turn_words m = case_words (cpu_case m) m

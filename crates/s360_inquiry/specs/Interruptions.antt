@@ -2,7 +2,7 @@
 use Rattle.std.specs.Prelude.{ℕ, Bool, true, false, nat_eq, Option, Some, None, List, [], ◌++◌, codes}
 use Rattle.s360_fixed.specs.declared.program_code.ProgramCode.{ProgramCode}
 use Rattle.s360_fixed.specs.declared.program_code.ProgramCode.TheVariants.{Operation, Privileged, Execute, Protection, Addressing, Specification}
-use Rattle.s360_fixed.specs.declared.program_code.ProgramCode.TheVariants.{Data, FixedPointOverflow, FixedPointDivide}
+use Rattle.s360_fixed.specs.declared.program_code.ProgramCode.TheVariants.{Data, FixedPointOverflow, FixedPointDivide, DecimalOverflow, DecimalDivide}
 use Rattle.s360_journal.specs.Recorded.{Recorded}
 use Rattle.s360_inquiry.specs.declared.jump.Jump.{Jump}
 use Rattle.s360_inquiry.specs.declared.jump.Jump.TheVariants.{Interruption, Program, SupervisorCall}
@@ -42,6 +42,8 @@ exception_name Specification = codes "specification"
 exception_name Data = codes "data"
 exception_name FixedPointOverflow = codes "fixed-point overflow"
 exception_name FixedPointDivide = codes "fixed-point divide"
+exception_name DecimalOverflow = codes "decimal overflow"
+exception_name DecimalDivide = codes "decimal divide"
 
 abbrev pub exception_words : Jump → List ℕ
 exception_words (Program code) = codes ", " ++ exception_name code ++ codes " exception"

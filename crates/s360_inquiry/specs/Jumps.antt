@@ -6,13 +6,14 @@ use Rattle.s360_model.specs.Core.{Core}
 use Rattle.s360_model.specs.Psw.{condition_code_of, instruction_address_of}
 use Rattle.s360_model.specs.Text.{decimal, hex_text}
 use Rattle.s360_fixed.specs.declared.ended.Ended.{Ended}
-use Rattle.s360_fixed.specs.declared.ended.Ended.TheVariants.{Done, Program as program, Svc}
+use Rattle.s360_fixed.specs.declared.ended.Ended.TheVariants.{Done, DecimalOverflow, Program as program, Svc}
 use Rattle.s360_fixed.specs.declared.form.Form.{Form}
 use Rattle.s360_fixed.specs.declared.form.Form.TheVariants.{Rr, Rx}
 use Rattle.s360_fixed.specs.declared.operation.Operation.{Operation}
 use Rattle.s360_fixed.specs.declared.operation.Operation.TheVariants.{BranchOnCondition, BranchAndLink, BranchOnCount, BranchOnIndexHigh}
 use Rattle.s360_fixed.specs.declared.operation.Operation.TheVariants.{BranchOnIndexLowOrEqual, LoadPsw}
 use Rattle.s360_fixed.specs.ProgramCodes.{number_of_code}
+use Rattle.s360_fixed.specs.declared.program_code.ProgramCode.{ProgramCode}
 use Rattle.s360_machine.specs.declared.cpu.CpuCase.{CpuCase}
 use Rattle.s360_machine.specs.declared.cpu.CpuCase.TheVariants.{Interrupted, Executing}
 use Rattle.s360_machine.specs.declared.event_kind.EventKind.{EventKind}
@@ -51,6 +52,7 @@ jump_of_performed (Some form) next = jump_of_form form next
 
 abbrev pub jump_of_ended : Ended → Executed → Option Jump
 jump_of_ended (program code) e = Some (Program code)
+jump_of_ended DecimalOverflow e = Some (Program ProgramCode.DecimalOverflow)
 jump_of_ended (Svc code) e = Some (SupervisorCall code)
 jump_of_ended Done e = jump_of_performed e.performed e.next_address
 jump_of_ended other e = None

@@ -1,5 +1,5 @@
 -- The mnemonics of the operation codes (GA22-6821, "Operation Codes").
-use Rattle.std.specs.Prelude.{ℕ, Option, List, [], ◌∷◌, codes}
+use Rattle.std.specs.Prelude.{ℕ, Bool, if◌then◌else◌, Option, List, [], ◌∷◌, ◌++◌, codes}
 use Rattle.s360_model.specs.Tables.{entry_in}
 
 abbrev pub mnemonics : List (ℕ × List ℕ)
@@ -94,6 +94,19 @@ mnemonics =
     ∷ (0xF3, codes "UNPK")
     ∷ []
 
--- the mnemonic of a code, if it is one
-abbrev pub mnemonic_of : ℕ → Option (List ℕ)
-mnemonic_of code = entry_in mnemonics code
+-- those that a machine with the decimal feature has beside them
+abbrev pub decimal_mnemonics : List (ℕ × List ℕ)
+decimal_mnemonics =
+    (0xDE, codes "ED")
+    ∷ (0xDF, codes "EDMK")
+    ∷ (0xF8, codes "ZAP")
+    ∷ (0xF9, codes "CP")
+    ∷ (0xFA, codes "AP")
+    ∷ (0xFB, codes "SP")
+    ∷ (0xFC, codes "MP")
+    ∷ (0xFD, codes "DP")
+    ∷ []
+
+-- the mnemonic of a code, if it is one in a machine with the decimal feature or without it
+abbrev pub mnemonic_of : Bool → ℕ → Option (List ℕ)
+mnemonic_of decimal code = entry_in (if decimal then decimal_mnemonics ++ mnemonics else mnemonics) code

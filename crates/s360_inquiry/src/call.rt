@@ -91,7 +91,7 @@ fn link_of_executed(executed: &Executed) -> Option<Link>
     match executed.ended {
         Ended::Svc(_) => Some(Link::OldPsw),
         Ended::Done => link_of_performed(&executed.performed),
-        Ended::Program(_) | Ended::Io(..) => None,
+        Ended::Program(_) | Ended::DecimalOverflow | Ended::Io(..) => None,
     }
 }
 

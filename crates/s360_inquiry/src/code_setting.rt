@@ -41,6 +41,12 @@ fn operation_sets_code(operation: Operation) -> bool
             | Operation::TestUnderMask
             | Operation::TestAndSet
             | Operation::TranslateAndTest
+            | Operation::Edit
+            | Operation::EditAndMark
+            | Operation::ZeroAndAdd
+            | Operation::CompareDecimal
+            | Operation::AddDecimal
+            | Operation::SubtractDecimal
             | Operation::SetProgramMask
             | Operation::LoadPsw
     )
@@ -62,7 +68,7 @@ fn executed_sets_code(executed: &Executed) -> bool
 {
     match executed.ended {
         Ended::Done => performed_sets_code(&executed.performed),
-        Ended::Program(_) | Ended::Svc(_) | Ended::Io(..) => true,
+        Ended::Program(_) | Ended::DecimalOverflow | Ended::Svc(_) | Ended::Io(..) => true,
     }
 }
 

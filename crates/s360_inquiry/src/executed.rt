@@ -31,7 +31,7 @@ fn subject_performed(view: &View, r1: RegisterNumber, address: u32) -> Option<Fo
         Ok(bytes) => with_ored_byte(view, r1, bytes),
         Err(_) => return None,
     };
-    let form = decode(&bytes)?;
+    let form = decode(view.core().decimal(), &bytes)?;
     match subject_of(&form, view) {
         Some(_) => None,
         None => Some(form),
@@ -59,7 +59,7 @@ fn performed_at_address(view: &View) -> Option<Form>
         psw.instruction_address(),
         psw.protection_key(),
     ) {
-        Ok(bytes) => performed_if(view, decode_bytes(bytes)),
+        Ok(bytes) => performed_if(view, decode_bytes(view.core().decimal(), bytes)),
         Err(_) => None,
     }
 }

@@ -55,7 +55,7 @@ fn push_turn(text: &mut Text, machine: &Machine) -> Result<(), AllocError>
         CpuCase::Interrupted(class) => text.push_text(class_words(class)),
         CpuCase::Waiting => text.push_text(" waits"),
         CpuCase::Executing => {
-            push_instruction(text, machine.storage(), machine.psw().instruction_address())
+            push_instruction(text, machine, machine.psw().instruction_address())
         }
     }
 }
@@ -71,13 +71,14 @@ fn class_words(class: Class) -> &'static str
 }
 
 /// Adds the instruction at an address, after a blank: its mnemonic, if it has one, and its bytes.
-fn push_instruction(text: &mut Text, storage: &Storage, at: u32) -> Result<(), AllocError>
-    ensures { OnOk result (text.new ≡ text.old ++ instruction_words storage.now at) }
+fn push_instruction(text: &mut Text, machine: &Machine, at: u32) -> Result<(), AllocError>
+    ensures { OnOk result (text.new ≡ text.old ++ instruction_words machine.now.whole.core at) }
 {
+    let storage = machine.storage();
     if at >= storage.size() {
         return text.push_text(" outside");
     }
-    push_mnemonic(text, mnemonic_of(storage.byte(at)))?;
+    push_mnemonic(text, mnemonic_of(machine.decimal(), storage.byte(at)))?;
     text.push_text(" ")?;
     push_digits(text, fetched_bytes(storage, at))?;
     Ok(())

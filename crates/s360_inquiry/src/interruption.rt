@@ -47,6 +47,8 @@ fn exception_name(code: ProgramCode) -> &'static str
         ProgramCode::Data => "data",
         ProgramCode::FixedPointOverflow => "fixed-point overflow",
         ProgramCode::FixedPointDivide => "fixed-point divide",
+        ProgramCode::DecimalOverflow => "decimal overflow",
+        ProgramCode::DecimalDivide => "decimal divide",
     }
 }
 

@@ -82,6 +82,7 @@ fn jump_of_executed(executed: &Executed) -> Option<Jump>
 {
     match executed.ended {
         Ended::Program(code) => Some(Jump::Program(code)),
+        Ended::DecimalOverflow => Some(Jump::Program(ProgramCode::DecimalOverflow)),
         Ended::Svc(code) => Some(Jump::SupervisorCall(code)),
         Ended::Done => jump_of_performed(&executed.performed, executed.next_address),
         Ended::Io(..) => None,

@@ -1,11 +1,12 @@
 //! The mnemonics of instructions. Source: GA22-6821, "Operation Codes".
-ghost use Rattle.std.specs.Prelude.{◌≡◌};
+ghost use Rattle.std.specs.Prelude.{◌≡◌, false};
 ghost use Rattle.std.specs.Option.{option_copied};
-ghost use Rattle.s360_inquiry.specs.Mnemonics.{mnemonic_of};
+ghost use Rattle.s360_model.specs.Tables.{entry_in};
+ghost use Rattle.s360_inquiry.specs.Mnemonics.{decimal_mnemonics, mnemonic_of};
 
-/// The mnemonic of an operation code, if it is one.
-pub fn mnemonic_of(code: u8) -> Option<&'static str>
-    ensures { option_copied result ≡ mnemonic_of code }
+/// The mnemonic of an operation code that every machine has, if it is one.
+fn mnemonic_at(code: u8) -> Option<&'static str>
+    ensures { option_copied result ≡ mnemonic_of false code }
 {
     match code {
         0x04 => Some("SPM"),
@@ -98,4 +99,33 @@ pub fn mnemonic_of(code: u8) -> Option<&'static str>
         0xF3 => Some("UNPK"),
         _ => None,
     }
+}
+
+/// That of a code of the decimal feature.
+fn decimal_mnemonic_at(code: u8) -> Option<&'static str>
+    ensures { option_copied result ≡ entry_in decimal_mnemonics code }
+{
+    match code {
+        0xDE => Some("ED"),
+        0xDF => Some("EDMK"),
+        0xF8 => Some("ZAP"),
+        0xF9 => Some("CP"),
+        0xFA => Some("AP"),
+        0xFB => Some("SP"),
+        0xFC => Some("MP"),
+        0xFD => Some("DP"),
+        _ => None,
+    }
+}
+
+/// The mnemonic of an operation code, if it is one in a machine with the decimal feature or without it.
+pub(crate) fn mnemonic_of(decimal: bool, code: u8) -> Option<&'static str>
+    ensures { option_copied result ≡ mnemonic_of decimal code }
+{
+    if decimal {
+        if let Some(mnemonic) = decimal_mnemonic_at(code) {
+            return Some(mnemonic);
+        }
+    }
+    mnemonic_at(code)
 }

@@ -25,8 +25,8 @@ outcome-of-form m a form h = rw h refl
 pub outcome-fetched : (f : FetchedInstruction) → IsFetched f → (instruction_at f.view.core (instruction_address_of f.view.core.psw)).outcome ≡ fetched_outcome f.view f.form
 outcome-fetched f h =
     let a : ℕ = instruction_address_of f.view.core.psw
-    in outcome-of-form f.view.core a (form_of (instruction_bytes f.view.core.storage a)) h.can
-    ∙ ap (λ v. fetched_outcome v (form_of (instruction_bytes f.view.core.storage a))) (sym h.view)
+    in outcome-of-form f.view.core a (form_of f.view.core.decimal (instruction_bytes f.view.core.storage a)) h.can
+    ∙ ap (λ v. fetched_outcome v (form_of f.view.core.decimal (instruction_bytes f.view.core.storage a))) (sym h.view)
     ∙ ap (λ x. fetched_outcome f.view x) (sym h.form)
 
 -- what is put of it
@@ -56,7 +56,7 @@ pub PutsInstruction-refused : {S : Type 0} (q : Ghosts S) (puts : S) (m : Core) 
 unfolding instruction
 PutsInstruction-refused q puts m code h₀ h =
     let a : ℕ = instruction_address_of m.psw
-    in let outcome : (instruction_at m a).outcome ≡ refused_outcome m code = instruction_of-refused m a (form_of (instruction_bytes m.storage a)) code h
+    in let outcome : (instruction_at m a).outcome ≡ refused_outcome m code = instruction_of-refused m a (form_of m.decimal (instruction_bytes m.storage a)) code h
     in let v : View = record { core = m; next_address = (instruction m).next_address; instruction_length = (instruction m).instruction_length }
     in let nothing : PutsOutcome q puts v (refused_outcome m code) (Program code) = record { ends = refl; makes = h₀.same; allowed = h₀.allowed; few = omega (arith, h₀.none); follow = (ap (λ (n : Core). n.storage) h₀.same, λ a. h₀.any (Byte a)) }
     in record {

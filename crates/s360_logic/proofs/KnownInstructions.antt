@@ -14,6 +14,7 @@ known psw r1 r2 r3 r4 r5 bytes = record {
   psw = psw;
   registers = 0 ∷ r1 ∷ r2 ∷ r3 ∷ r4 ∷ r5 ∷ 0 ∷ 0 ∷ 0 ∷ 0 ∷ 0 ∷ 0 ∷ 0 ∷ 0 ∷ 0 ∷ 0 ∷ [];
   storage = record { bytes = bytes; keys = 0 ∷ []; fetch_protection = false };
+  decimal = false;
 }
 
 -- AR: the largest word plus one overflows, and interrupts where its mask is one

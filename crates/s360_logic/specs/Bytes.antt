@@ -39,6 +39,13 @@ combination_code BitwiseOr results = code_of_bytes results
 combination_code BitwiseExclusiveOr results = code_of_bytes results
 combination_code other results = None
 
+-- two operands with their lengths, of which each is a digit of the length field: one less than the number of bytes
+abbrev pub first_field : ℕ → ℕ → Field
+first_field l address = record { address = address; count = l / 16 + 1 }
+
+abbrev pub second_field : ℕ → ℕ → Field
+second_field l address = record { address = address; count = l % 16 + 1 }
+
 -- what an access to an operand on any boundary meets with the key of the PSW
 abbrev pub field_access : View → Access → Field → Checked
 field_access v kind field = access v.core.storage field.address field.count kind (protection_key_of v.core.psw)

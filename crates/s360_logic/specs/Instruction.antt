@@ -42,7 +42,7 @@ pub record Instruction : Type 0 where
 -- the instruction at an address, and at the instruction address
 abbrev pub instruction_at : Core → ℕ → Instruction
 instruction_at m address = record {
-  outcome = instruction_of m address (form_of (instruction_bytes m.storage address));
+  outcome = instruction_of m address (form_of m.decimal (instruction_bytes m.storage address));
   next_address = (view_at m address).next_address;
   instruction_length = (view_at m address).instruction_length;
 }
@@ -59,12 +59,12 @@ pub record FetchedInstruction : Type 0 where
 pub record IsFetched (f : FetchedInstruction) : Type 0 where
   pub can : program_code (conditions_at f.view.core (instruction_address_of f.view.core.psw)) ≡ None
   pub view : f.view ≡ view_at f.view.core (instruction_address_of f.view.core.psw)
-  pub form : f.form ≡ form_of (instruction_bytes f.view.core.storage (instruction_address_of f.view.core.psw))
+  pub form : f.form ≡ form_of f.view.core.decimal (instruction_bytes f.view.core.storage (instruction_address_of f.view.core.psw))
 
 -- bytes are an instruction that was fetched, which works on this view
 abbrev pub AreFetched : List ℕ → View → Type 0
 AreFetched bytes v =
-    (0 < length bytes) × (length bytes ≡ instruction_length (slice_index bytes 0)) × IsFetched (record { view = v; form = form_of bytes })
+    (0 < length bytes) × (length bytes ≡ instruction_length (slice_index bytes 0)) × IsFetched (record { view = v; form = form_of v.core.decimal bytes })
 
 -- an instruction ends as the definition's does, with its next address and its length, and its puts make the definition's core
 pub record PutsInstruction {S : Type 0} (p : Ghosts S) (taken : S) (m : Core) (i : Instruction) (planned : PlannedInstruction) : Type 0 where

@@ -5,6 +5,8 @@ pub mod Immediate
 pub mod LeftToRight
 pub mod RightToLeft
 pub mod Converting
+pub mod Decimal
+pub mod Edits
 pub mod Status
 pub mod Logic
 pub mod Instruction

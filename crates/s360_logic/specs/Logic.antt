@@ -8,18 +8,22 @@ use Rattle.s360_fixed.specs.declared.program_code.ProgramCode.TheVariants.{Execu
 use Rattle.s360_fixed.specs.{Fetching.fetch_conditions, Fetching.instruction_bytes, Outcomes.unless_met, View.Outcome, View.View, View.register_of}
 use Rattle.s360_fixed.specs.{Fixed.fixed_outcome, Operands.operand_address, Table.form_of, Table.displacement_at, Table.high_digit, Table.low_digit}
 use Rattle.s360_logic.specs.{declared.row.StorageRow.StorageRow, Converting.conversion_outcome, Immediate.immediate_outcome, RightToLeft.digits_outcome}
-use Rattle.s360_logic.specs.LeftToRight.{combine_outcome, compare_outcome, translate_outcome, translate_and_test_outcome}
+use Rattle.s360_logic.specs.{Bytes.first_field, Bytes.second_field, Decimal.decimal_outcome, Edits.edit_outcome}
+use Rattle.s360_logic.specs.LeftToRight.{combine_outcome, compare_outcome, field_at, translate_outcome, translate_and_test_outcome}
 use Rattle.s360_logic.specs.Rows.{conversion_of, immediate_row_of, register_status_of, storage_row_of, storage_status_of}
 use Rattle.s360_logic.specs.Status.{register_status_outcome, storage_status_outcome}
 
--- a row of two operands in storage, by the length field, which is one less than the number of bytes, or two such fields for digits, and by the addresses
+-- a row of two operands in storage, by the length field, which is one less than the number of bytes, or two such fields for digits and decimal numbers, and by
+-- the addresses
 abbrev pub storage_outcome : StorageRow → View → ℕ → ℕ → ℕ → Outcome
 storage_outcome (StorageRow.Combine c) v l first second = combine_outcome c v first second (l + 1)
 storage_outcome StorageRow.Compare v l first second = compare_outcome v first second (l + 1)
 storage_outcome StorageRow.Translate v l first second = translate_outcome v first second (l + 1)
 storage_outcome StorageRow.TranslateAndTest v l first second = translate_and_test_outcome v first second (l + 1)
 storage_outcome (StorageRow.Digits row) v l first second =
-    digits_outcome row v (record { address = first; count = l / 16 + 1 }) (record { address = second; count = l % 16 + 1 })
+    digits_outcome row v (first_field l first) (second_field l second)
+storage_outcome (StorageRow.Decimal row) v l first second = decimal_outcome row v (first_field l first) (second_field l second)
+storage_outcome (StorageRow.Edit row) v l first second = edit_outcome row v (field_at first (l + 1)) second
 
 -- the address that a base and a displacement make
 abbrev pub address_of : View → ℕ → ℕ → ℕ
@@ -71,7 +75,7 @@ subject_outcome v (Some form) = option_map_or (λ subject. record { ended = Prog
 abbrev pub execute_outcome : View → ℕ → ℕ → Outcome
 execute_outcome v r1 address =
     unless_met (fetch_conditions v.core.storage address (protection_key_of v.core.psw)) v.core
-    (subject_outcome v (form_of (subject_bytes v r1 address)))
+    (subject_outcome v (form_of v.core.decimal (subject_bytes v r1 address)))
 
 -- what an instruction does
 abbrev pub outcome_of : View → Form → Outcome
@@ -96,6 +100,10 @@ in_rs row bytes v = row v (high_digit bytes 1) (low_digit bytes 1) (based_addres
 -- the immediate byte and an address
 abbrev pub in_si : (View → ℕ → ℕ → Outcome) → List ℕ → View → Outcome
 in_si row bytes v = row v (slice_index bytes 1) (based_address v bytes 2)
+
+-- a row of the decimal feature: without it the code is that of no operation
+abbrev pub if_decimal : View → Outcome → Outcome
+if_decimal v outcome = if v.core.decimal then outcome else record { ended = Program operation_code; core = v.core }
 
 -- the length field and two addresses
 abbrev pub in_ss : (View → ℕ → ℕ → ℕ → Outcome) → List ℕ → View → Outcome

@@ -4,7 +4,7 @@ use Rattle.std.specs.Prelude.{Option, Some, None}
 use Rattle.s360_fixed.specs.declared.{operation.Operation.Operation, ended.IoOperation.IoOperation}
 use Rattle.s360_logic.specs.declared.row.ByteCombination.TheVariants.{Second, LowHalf, HighHalf, BitwiseAnd, BitwiseOr, BitwiseExclusiveOr}
 use Rattle.s360_logic.specs.declared.row.{ImmediateRow.ImmediateRow, KeyRow.KeyRow, RegisterStatus.RegisterStatus, StorageStatus.StorageStatus}
-use Rattle.s360_logic.specs.declared.row.{DigitRow.DigitRow, StorageRow.StorageRow, Conversion.Conversion}
+use Rattle.s360_logic.specs.declared.row.{DecimalRow.DecimalRow, DigitRow.DigitRow, EditRow.EditRow, StorageRow.StorageRow, Conversion.Conversion}
 
 -- the rows with an immediate byte
 abbrev pub immediate_row_of : Operation → Option ImmediateRow
@@ -31,6 +31,14 @@ storage_row_of Operation.TranslateAndTest = Some StorageRow.TranslateAndTest
 storage_row_of Operation.MoveWithOffset = Some (StorageRow.Digits DigitRow.MoveWithOffset)
 storage_row_of Operation.Pack = Some (StorageRow.Digits DigitRow.Pack)
 storage_row_of Operation.Unpack = Some (StorageRow.Digits DigitRow.Unpack)
+storage_row_of Operation.Edit = Some (StorageRow.Edit EditRow.Edit)
+storage_row_of Operation.EditAndMark = Some (StorageRow.Edit EditRow.EditAndMark)
+storage_row_of Operation.ZeroAndAdd = Some (StorageRow.Decimal DecimalRow.ZeroAndAdd)
+storage_row_of Operation.CompareDecimal = Some (StorageRow.Decimal DecimalRow.Compare)
+storage_row_of Operation.AddDecimal = Some (StorageRow.Decimal DecimalRow.Add)
+storage_row_of Operation.SubtractDecimal = Some (StorageRow.Decimal DecimalRow.Subtract)
+storage_row_of Operation.MultiplyDecimal = Some (StorageRow.Decimal DecimalRow.Multiply)
+storage_row_of Operation.DivideDecimal = Some (StorageRow.Decimal DecimalRow.Divide)
 storage_row_of other = None
 
 -- the conversions

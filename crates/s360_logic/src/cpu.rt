@@ -44,7 +44,7 @@ impl<'a> Model for FetchedInstruction<'a> {
 
     ghost Value = { Seen };
 
-    ghost view = { λ f. record { view = f.view; form = form_of f.bytes.now } };
+    ghost view = { λ f. record { view = f.view; form = form_of f.view.core.decimal f.bytes.now } };
 
     ghost invariant = { λ f. AreFetched f.bytes.now f.view };
 }
@@ -101,7 +101,7 @@ impl<'a> FetchedInstruction<'a> {
     pub fn form(&self) -> Option<Form>
         ensures { result ≡ self.now.form }
     {
-        decode_bytes(self.bytes)
+        decode_bytes(self.view.core().decimal(), self.bytes)
     }
 
     /// Puts it, and says how it ends.

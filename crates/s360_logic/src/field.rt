@@ -1,9 +1,9 @@
 //! Operands in storage, and what keeps them from being used. Source: GA22-6821, "System Structure",
 //! protection feature, and "Interruptions", program interruption.
-ghost use Rattle.std.specs.Prelude.{◌≡◌, IfNone};
+ghost use Rattle.std.specs.Prelude.{◌≡◌, ◌<◌, ◌≤◌, IfNone};
 ghost use Rattle.s360_store.specs.Plans.{HasBytes};
 ghost use Rattle.s360_fixed.specs.ProgramCodes.{program_code};
-ghost use Rattle.s360_logic.specs.Bytes.{field_access, fields_conditions};
+ghost use Rattle.s360_logic.specs.Bytes.{field_access, fields_conditions, first_field, second_field};
 
 use s360_fixed::{ProgramCode, View};
 use s360_store::{Access, Checked};
@@ -15,6 +15,32 @@ pub struct Field {
     pub address: u32,
     /// The number of its bytes.
     pub count: u32,
+}
+
+impl Field {
+    /// The first of two operands with their lengths, by the length field and its address.
+    pub(crate) fn first(l: u8, address: u32) -> Field
+        ensures field { result ≡ first_field l address }
+        ensures some { 0 < result.count }
+        ensures few { result.count ≤ 16 }
+    {
+        Field {
+            address,
+            count: u32::from(l / 16) + 1,
+        }
+    }
+
+    /// The second of them.
+    pub(crate) fn second(l: u8, address: u32) -> Field
+        ensures field { result ≡ second_field l address }
+        ensures some { 0 < result.count }
+        ensures few { result.count ≤ 16 }
+    {
+        Field {
+            address,
+            count: u32::from(l % 16) + 1,
+        }
+    }
 }
 
 /// What an access to an operand meets with the key of the PSW.

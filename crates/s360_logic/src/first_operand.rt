@@ -64,6 +64,13 @@ impl<'a> FirstOperand<'a> {
         self.bytes.len() as u32
     }
 
+    /// The number of bytes of storage.
+    pub(crate) fn storage_size(&self) -> u32
+        ensures { result ≡ length self.now.storage.bytes }
+    {
+        self.storage.size()
+    }
+
     /// The address of its leftmost byte.
     pub(crate) fn address(&self) -> u32
         ensures { result ≡ self.now.address }

@@ -252,7 +252,7 @@ fn translate(
 }
 
 /// What keeps an instruction from being done, by what the accesses to its operand and to the function bytes meet.
-fn exception_of(operand: Checked, functions: Checked) -> Option<ProgramCode>
+pub(crate) fn exception_of(operand: Checked, functions: Checked) -> Option<ProgramCode>
     ensures code { result ≡ program_code (conditions_of (met_of_both operand functions)) }
     ensures clear { IfNone result (functions ≡ Clear) }
 {
@@ -336,7 +336,7 @@ fn search(
 }
 
 /// The word with another address in bits 8 to 31.
-fn with_address(word: Word, address: u32) -> Word
+pub(crate) fn with_address(word: Word, address: u32) -> Word
     requires { address < 2 ^ 24 }
     ensures { result ≡ with_address word address }
 {

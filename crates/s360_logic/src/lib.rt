@@ -9,7 +9,10 @@ mod bytes;
 mod condition;
 mod converting;
 mod cpu;
+mod decimal;
 mod dispatch;
+mod edit;
+mod feature;
 mod field;
 mod first_operand;
 mod formats;
@@ -22,11 +25,13 @@ mod row;
 mod status;
 
 pub use cpu::{FetchedInstruction, PlannedInstruction, fetch, plan_instruction, put_instruction};
+pub use decimal::overlaps_to_the_left;
+pub use edit::{EditFault, Editing, edit_of};
 pub use field::{Field, fields_exception};
 pub use laws::digits_of_apart_operands;
 pub use logic::{plan_logic, put_logic, subject_of, with_ored_byte};
 pub use row::{
-    ByteCombination, Conversion, DigitRow, ImmediateRow, KeyRow, RegisterStatus, StorageRow,
-    StorageStatus, conversion_of, immediate_row_of, register_status_of, storage_row_of,
-    storage_status_of,
+    ByteCombination, Conversion, DecimalRow, DigitRow, EditRow, ImmediateRow, KeyRow,
+    RegisterStatus, StorageRow, StorageStatus, conversion_of, immediate_row_of,
+    register_status_of, storage_row_of, storage_status_of,
 };

@@ -9,6 +9,8 @@ ghost use Rattle.s360_logic.specs.Logic.{storage_outcome, subject_of, with_ored_
 ghost use Rattle.arrayvec.specs.ArrayVec.{array_vec_len};
 
 use crate::converting::put_conversion;
+use crate::decimal::put_decimal;
+use crate::edit::put_edit;
 use crate::field::Field;
 use crate::immediate::put_immediate;
 use crate::left_to_right::{put_combine, put_compare, put_translate, put_translate_and_test};
@@ -60,15 +62,17 @@ pub(crate) fn put_storage<P: Puts>(
         StorageRow::Translate => put_translate(view, first, second, count, puts),
         StorageRow::TranslateAndTest => put_translate_and_test(view, first, second, count, puts),
         StorageRow::Digits(row) => {
+            put_digits(view, row, Field::first(l, first), Field::second(l, second), puts)
+        }
+        StorageRow::Decimal(row) => {
+            put_decimal(view, row, Field::first(l, first), Field::second(l, second), puts)
+        }
+        StorageRow::Edit(row) => {
             let field = Field {
                 address: first,
-                count: u32::from(l / 16) + 1,
+                count,
             };
-            let other = Field {
-                address: second,
-                count: u32::from(l % 16) + 1,
-            };
-            put_digits(view, row, field, other, puts)
+            put_edit(view, row, field, second, puts)
         }
     }
 }
@@ -179,7 +183,7 @@ pub(crate) fn put_execute<P: Puts>(
         Ok(bytes) => with_ored_byte(view, r1, bytes),
         Err(code) => return Ok(Ended::Program(code)),
     };
-    let Some(form) = decode(&bytes) else {
+    let Some(form) = decode(view.core().decimal(), &bytes) else {
         return Ok(Ended::Program(ProgramCode::Operation));
     };
     if subject_of(&form, view).is_some() {

@@ -49,6 +49,32 @@ pub enum DigitRow {
     Unpack,
 }
 
+/// What is made of two packed decimal numbers in storage.
+#[derive(Clone, Copy, PartialEq, Eq)]
+pub enum DecimalRow {
+    /// Zero plus the second.
+    ZeroAndAdd,
+    /// The two are compared.
+    Compare,
+    /// The first plus the second.
+    Add,
+    /// The first minus the second.
+    Subtract,
+    /// The first times the second.
+    Multiply,
+    /// The first by the second: the quotient, and on its right the remainder.
+    Divide,
+}
+
+/// What is made of a pattern and of packed digits in storage.
+#[derive(Clone, Copy, PartialEq, Eq)]
+pub enum EditRow {
+    /// The digits among the signs of the pattern.
+    Edit,
+    /// The same, and the address of the first digit that is shown goes into register 1.
+    EditAndMark,
+}
+
 /// What is done with two operands in storage.
 #[derive(Clone, Copy)]
 pub enum StorageRow {
@@ -62,6 +88,10 @@ pub enum StorageRow {
     TranslateAndTest,
     /// The first, with its own length, becomes something of the digits of the second.
     Digits(DigitRow),
+    /// The first, with its own length, becomes something of two decimal numbers.
+    Decimal(DecimalRow),
+    /// The first, which is a pattern, becomes the digits of the second with what it has beside them.
+    Edit(EditRow),
 }
 
 /// A conversion between a word in a register and a packed decimal number in storage.
@@ -142,6 +172,14 @@ pub fn storage_row_of(operation: Operation) -> Option<StorageRow>
         Operation::MoveWithOffset => Some(StorageRow::Digits(DigitRow::MoveWithOffset)),
         Operation::Pack => Some(StorageRow::Digits(DigitRow::Pack)),
         Operation::Unpack => Some(StorageRow::Digits(DigitRow::Unpack)),
+        Operation::Edit => Some(StorageRow::Edit(EditRow::Edit)),
+        Operation::EditAndMark => Some(StorageRow::Edit(EditRow::EditAndMark)),
+        Operation::ZeroAndAdd => Some(StorageRow::Decimal(DecimalRow::ZeroAndAdd)),
+        Operation::CompareDecimal => Some(StorageRow::Decimal(DecimalRow::Compare)),
+        Operation::AddDecimal => Some(StorageRow::Decimal(DecimalRow::Add)),
+        Operation::SubtractDecimal => Some(StorageRow::Decimal(DecimalRow::Subtract)),
+        Operation::MultiplyDecimal => Some(StorageRow::Decimal(DecimalRow::Multiply)),
+        Operation::DivideDecimal => Some(StorageRow::Decimal(DecimalRow::Divide)),
         _ => None,
     }
 }

@@ -37,6 +37,7 @@ known psw r1 r2 bytes run_state external = record {
       keys = 0 ∷ [];
       fetch_protection = false;
     };
+    decimal = false;
   };
   control = record { run_state = run_state; external = external };
   units = idle_units;

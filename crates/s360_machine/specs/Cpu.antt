@@ -9,7 +9,8 @@ use Rattle.s360_psw.specs.declared.instruction_length.InstructionLength.TheVaria
 use Rattle.s360_psw.specs.declared.pending.Pending.{Pending}
 use Rattle.s360_psw.specs.Pending.{next_interruption_of}
 use Rattle.s360_fixed.specs.declared.ended.Ended.{Ended}
-use Rattle.s360_fixed.specs.declared.ended.Ended.TheVariants.{Done, Program, Svc, Io}
+use Rattle.s360_fixed.specs.declared.ended.Ended.TheVariants.{Done, Program, DecimalOverflow, Svc, Io}
+use Rattle.s360_fixed.specs.declared.program_code.ProgramCode.{ProgramCode}
 use Rattle.s360_fixed.specs.ProgramCodes.{number_of_code}
 use Rattle.s360_logic.specs.Instruction.{Instruction, instruction}
 use Rattle.s360_machine.specs.declared.cpu.CpuCase.{CpuCase}
@@ -56,6 +57,8 @@ with_next_address address m = core_with_psw (with_instruction_address m.psw addr
 abbrev pub core_after_ended : Ended → Instruction → Core
 core_after_ended Done i = i.outcome.core
 core_after_ended (Program code) i = after_interruption program (number_of_code code) i.instruction_length (with_next_address i.next_address i.outcome.core)
+core_after_ended DecimalOverflow i =
+    after_interruption program (number_of_code ProgramCode.DecimalOverflow) i.instruction_length (with_next_address i.next_address i.outcome.core)
 core_after_ended (Svc code) i = after_interruption Supervisor code i.instruction_length (with_next_address i.next_address i.outcome.core)
 core_after_ended (Io operation unit) i = i.outcome.core
 

@@ -1,6 +1,6 @@
 -- The machine as one record (GA22-6821, "System Structure"), and what its code keeps of it.
 use Rattle.std.specs.Prelude.{ℕ, Bool, false, List, length, slice_index_or}
-use Rattle.s360_model.specs.Core.{Core, zero_core_with}
+use Rattle.s360_model.specs.Core.{Core, with_decimal, zero_core_with}
 use Rattle.s360_model.specs.Storage.{Storage, zero_storage}
 use Rattle.s360_device.specs.Punch.{Punch, new_punch}
 use Rattle.s360_device.specs.Reader.{Reader, new_reader}
@@ -71,6 +71,10 @@ pub record Whole : Type 0 where
 abbrev pub seen : Whole → Machine
 seen w = record { core = w.core; control = w.control; units = w.units; media = seen_media w.media }
 
+-- the same with the decimal feature, or without it
+abbrev pub whole_with_decimal : Bool → Whole → Whole
+whole_with_decimal decimal w = record w { core = with_decimal decimal w.core }
+
 -- room that was made for what will be put there; it is no part of the whole, and no law speaks of
 -- it: the cards that can be fed, those that can be punched, the lines that can be printed, those of
 -- the console, and the slots of each tape, device by device
@@ -86,7 +90,7 @@ pub record WithRoom : Type 0 where
   pub spare : Spare
 
 -- a new machine operates, with PSW, registers, storage, keys and fetch bits zero, fetches protected or
--- not, no condition pending, every unit idle, a deck in the card reader, and tapes on 180 and 181 (own
+-- not, without the decimal feature, no condition pending, every unit idle, a deck in the card reader, and tapes on 180 and 181 (own
 -- profile)
 abbrev pub machine_with : Storage → List (List ℕ) → Tape → Tape → Machine
 machine_with storage deck tape0 tape1 = record {
@@ -105,6 +109,10 @@ machine_with storage deck tape0 tape1 = record {
 
 abbrev pub new_machine : Bool → ℕ → List (List ℕ) → Tape → Tape → Machine
 new_machine fetch_protection size deck tape0 tape1 = machine_with (zero_storage fetch_protection size) deck tape0 tape1
+
+-- a machine with the decimal feature, or without it
+abbrev pub machine_with_decimal : Bool → Machine → Machine
+machine_with_decimal decimal m = record m { core = with_decimal decimal m.core }
 
 -- bytes of storage
 abbrev pub storage_size : Machine → ℕ

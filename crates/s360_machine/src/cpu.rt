@@ -12,7 +12,7 @@ ghost use Rattle.s360_store.specs.Puts.{HasNoPuts};
 ghost use Rattle.s360_machine.specs.declared.cpu.CpuCase.TheVariants.{Interrupted};
 
 use crate::beside::Beside;
-use crate::interruption::put_interruption;
+use crate::interruption::{put_interruption, put_interruption_over};
 use crate::machine::Machine;
 use s360_fixed::{Ended, ProgramCode};
 use s360_logic::{FetchedInstruction, PlannedInstruction};
@@ -167,6 +167,7 @@ impl Machine {
         let (class, code) = match planned.ended {
             Ended::Done => return Ok(()),
             Ended::Program(code) => (Class::Program, code.number()),
+            Ended::DecimalOverflow => (Class::Program, ProgramCode::DecimalOverflow.number()),
             Ended::Svc(code) => (Class::Supervisor, u16::from(code)),
             Ended::Io(operation, unit) => {
                 return self.put_io(operation, unit, planned.next_address, puts, beside);
@@ -175,13 +176,11 @@ impl Machine {
         let psw = puts
             .psw(&self.core)
             .with_instruction_address(planned.next_address);
-        put_interruption(
-            &self.core,
-            class,
-            psw,
-            code,
-            planned.instruction_length,
-            puts,
-        )
+        let (core, length) = (&self.core, planned.instruction_length);
+        if planned.ended == Ended::DecimalOverflow {
+            // Of all that an interruption follows this alone has put bytes of storage.
+            return put_interruption_over(core, class, psw, code, length, puts);
+        }
+        put_interruption(core, class, psw, code, length, puts)
     }
 }

@@ -4,7 +4,7 @@ ghost use Rattle.std.specs.Option.{option_copied, option_map};
 ghost use Rattle.std.specs.Bool.{MatchBool};
 ghost use Rattle.s360_model.specs.Storage.{is_storage_size};
 ghost use Rattle.s360_store.specs.declared.fault.StoreFault.TheVariants.{Size, Memory as no_memory};
-ghost use Rattle.s360_machine.specs.Machine.{Machine as SeenMachine, machine_with, new_machine, room_for, seen};
+ghost use Rattle.s360_machine.specs.Machine.{Machine as SeenMachine, machine_with, new_machine, room_for, seen, whole_with_decimal};
 ghost use Rattle.s360_store.specs.Cells.{AllFit};
 ghost use Rattle.s360_machine.specs.Change.{CanSwap, after_swap, change_after_swap, HasRoom, NeedsNoRoom, NeedsRoom};
 ghost use Rattle.s360_machine.specs.Changes.{change_of, change_of_core};
@@ -72,7 +72,7 @@ impl Model for Machine {
 
 impl Machine {
     /// A new machine with so many bytes of storage, a deck in its card reader, and tapes on 180 and
-    /// 181. It operates, every unit is idle, and all else is zero.
+    /// 181. It operates, every unit is idle, and all else is zero. It has no decimal feature.
     pub fn new(
         alloc: Global,
         size: u32,
@@ -122,6 +122,27 @@ impl Machine {
         }
     }
 
+    /// The same machine with the decimal feature, or without it. No event alters that.
+    pub fn with_decimal(self, decimal: bool) -> Machine
+        ensures whole { result.whole ≡ whole_with_decimal decimal self.whole }
+        ensures spare { result.spare ≡ self.spare }
+    {
+        let Machine {
+            core,
+            control,
+            units,
+            devices,
+            alloc,
+        } = self;
+        Machine {
+            core: core.with_decimal(decimal),
+            control,
+            units,
+            devices,
+            alloc,
+        }
+    }
+
     /// A machine that is equal to this one, with what is kept out of sight.
     pub fn copy(&self) -> Result<Machine, AllocError>
         ensures { IfOk result (λ m. m.whole ≡ self.now.whole) }
@@ -157,6 +178,13 @@ impl Machine {
         ensures { result.now ≡ self.now.whole.core.storage }
     {
         self.core.storage()
+    }
+
+    /// Whether there is the decimal feature.
+    pub fn decimal(&self) -> bool
+        ensures { result ≡ self.now.whole.core.decimal }
+    {
+        self.core.decimal()
     }
 
     /// The run state.

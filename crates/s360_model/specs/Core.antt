@@ -1,20 +1,27 @@
 -- What an instruction works on (GA22-6821, "System Structure"): the current PSW, the sixteen general
--- registers and main storage.
-use Rattle.std.specs.Prelude.{ℕ, Bool, if◌then◌else◌, List, replicate, slice_index, slice_set}
+-- registers and main storage. Whether the decimal feature is there is an option of the start (own profile).
+use Rattle.std.specs.Prelude.{ℕ, Bool, false, if◌then◌else◌, List, replicate, slice_index, slice_set}
 use Rattle.s360_model.specs.Storage.{Storage, fetch_bit_of_block, key_of_block, with_fetch_bit, with_run}
 
 pub record Core : Type 0 where
   pub psw : ℕ
   pub registers : List ℕ
   pub storage : Storage
+  -- the option: there are decimal arithmetic and editing. Nothing alters it
+  pub decimal : Bool
 
--- PSW and registers zero, with this storage (own profile)
+-- PSW and registers zero, with this storage and without the decimal feature (own profile)
 abbrev pub zero_core_with : Storage → Core
 zero_core_with storage = record {
   psw = 0;
   registers = replicate 16 0;
   storage = storage;
+  decimal = false;
 }
+
+-- with the decimal feature, or without it
+abbrev pub with_decimal : Bool → Core → Core
+with_decimal decimal m = record m { decimal = decimal }
 
 -- with another PSW
 abbrev pub core_with_psw : ℕ → Core → Core

@@ -44,7 +44,7 @@ pub(crate) fn are_same(alloc: Global, one: &Machine, other: &Machine) -> Result<
             return Ok(false);
         }
     }
-    Ok(are_alike(one.storage(), other.storage()))
+    Ok(one.decimal() == other.decimal() && are_alike(one.storage(), other.storage()))
 }
 
 /// Whether two storages have the same bytes, keys and fetch bits, and protect fetches alike.

@@ -25,7 +25,7 @@ option_row name = record (operand_row name) { long = Some name }
 abbrev pub flag_row : Text → Rule
 flag_row name = record (new_rule name) { long = Some name; action = Some SetTrue }
 
--- --storage BYTES, --reader FILE, --tape0 FILE, --tape1 FILE, --protect0, --protect1, --fetch and SCRIPT
+-- --storage BYTES, --reader FILE, --tape0 FILE, --tape1 FILE, --protect0, --protect1, --fetch, --decimal and SCRIPT
 abbrev pub command_rows : List Rule
 command_rows =
     option_row (codes "storage")
@@ -35,6 +35,7 @@ command_rows =
     ∷ flag_row (codes "protect0")
     ∷ flag_row (codes "protect1")
     ∷ flag_row (codes "fetch")
+    ∷ flag_row (codes "decimal")
     ∷ operand_row (codes "script")
     ∷ []
 

@@ -22,6 +22,8 @@ pub struct Options<'a> {
     pub tape1: TapeOptions<'a>,
     /// Whether fetches are protected.
     pub fetch: bool,
+    /// Whether there is the decimal feature.
+    pub decimal: bool,
     /// The file of the script, if one is named. Else the program says what it does.
     pub script: Option<&'a str>,
 }

@@ -23,8 +23,10 @@ pub fn set_up(rt: &HostRuntime, alloc: Global, options: Options<'_>) -> Result<M
     let tape0 = read_tape(rt, alloc, Stream::Tape0, options.tape0)?;
     let tape1 = read_tape(rt, alloc, Stream::Tape1, options.tape1)?;
     let size = options.storage;
-    if options.fetch {
-        return Ok(Machine::new_with_fetch(alloc, size, deck, tape0, tape1)?);
-    }
-    Ok(Machine::new(alloc, size, deck, tape0, tape1)?)
+    let machine = if options.fetch {
+        Machine::new_with_fetch(alloc, size, deck, tape0, tape1)?
+    } else {
+        Machine::new(alloc, size, deck, tape0, tape1)?
+    };
+    Ok(machine.with_decimal(options.decimal))
 }

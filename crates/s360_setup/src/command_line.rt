@@ -1,4 +1,4 @@
-//! The command line: `PROGRAM [--storage BYTES] [--fetch] [--reader FILE] [--tape0 FILE] [--tape1 FILE]
+//! The command line: `PROGRAM [--storage BYTES] [--fetch] [--decimal] [--reader FILE] [--tape0 FILE] [--tape1 FILE]
 //! [--protect0] [--protect1] [SCRIPT]`.
 ghost use Rattle.std.specs.Prelude.{◌≡◌, [], true, false, map, option_map, option_and_then, codes, IfOk, IfErr, OnOk};
 ghost use Rattle.std.specs.Option.{SomeIff};
@@ -38,6 +38,8 @@ const PROTECT1_HELP: &str = "Protects the tape of unit 181 against writing";
 
 const FETCH_HELP: &str = "Lets the fetch bit of a block protect it against fetches";
 
+const DECIMAL_HELP: &str = "Adds decimal arithmetic and editing to the instruction set";
+
 /// The options that a command line gives. Its first word is the name of the program. An `Err` is a
 /// fault of the command line, what `--help` or `--version` asks for, or want of memory.
 pub fn options<'a, S: AsStr>(
@@ -50,6 +52,7 @@ pub fn options<'a, S: AsStr>(
     ensures tape0 { IfOk result (λ o. IsTape program (codes "tape0") (codes "protect0") (map S.text words.entry.now) o.tape0) }
     ensures tape1 { IfOk result (λ o. IsTape program (codes "tape1") (codes "protect1") (map S.text words.entry.now) o.tape1) }
     ensures fetch { IfOk result (λ o. o.fetch ≡ has_flag program (codes "fetch") (map S.text words.entry.now)) }
+    ensures decimal { IfOk result (λ o. o.decimal ≡ has_flag program (codes "decimal") (map S.text words.entry.now)) }
     ensures script { IfOk result (λ o. option_map (λ name. name.now) o.script ≡ given program (codes "script") (map S.text words.entry.now)) }
     ensures accepted { OnOk result (fault_of (command_line program) (map S.text words.entry.now) ≡ []) }
     ensures passes { IfErr result (λ e. IsOnlyForMemory program (map S.text words.entry.now) (kind_of e)) }
@@ -67,6 +70,7 @@ pub fn options<'a, S: AsStr>(
             protected: is_given(&matches, "protect1"),
         },
         fetch: is_given(&matches, "fetch"),
+        decimal: is_given(&matches, "decimal"),
         script: matches.get_str("script"),
     })
 }
@@ -95,6 +99,7 @@ fn command_line<'a>(alloc: Global, program: Program) -> Result<Command<'a>, Allo
         .arg(flag(alloc, "protect0", PROTECT0_HELP))?
         .arg(flag(alloc, "protect1", PROTECT1_HELP))?
         .arg(flag(alloc, "fetch", FETCH_HELP))?
+        .arg(flag(alloc, "decimal", DECIMAL_HELP))?
         .arg(operand(alloc, "script", "SCRIPT", program.script()))
 }
 

@@ -109,23 +109,23 @@ pub execute-refused : (q : Question) (rows : FormRows) (r1 address next : ℕ) (
     → now ≡ walked q (execute_row rows (profile_of m.core) r1 address next length) m found
 execute-refused q rows r1 address next length m code found now e h =
     refused-walked q (fetch_conditions_read (profile_of m.core) address) program_code
-    (bind (subject_read r1 address) (λ bytes. subject_row rows (profile_of m.core) next length (form_of bytes))) m found now _ code
+    (bind (subject_read r1 address) (λ bytes. subject_row rows (profile_of m.core) next length (form_of m.core.decimal bytes))) m found now _ code
     (sym (ap program_code (fetch-is address m))) e h
 
 pub execute-done : (q : Question) (rows : FormRows) (r1 address next : ℕ) (long : InstructionLength) (m : Machine) (v : View) (bytes : List ℕ)
     (form : Option Form) (found now middle after : List Place) → program_code (conditions_at m.core address) ≡ None
     → length bytes ≡ length_at m.core.storage address → address + length bytes ≤ length m.core.storage.bytes → bytes ≡ instruction_bytes m.core.storage address
-    → v.core ≡ m.core → form ≡ form_of (with_ored_byte v r1 bytes)
+    → v.core ≡ m.core → form ≡ form_of m.core.decimal (with_ored_byte v r1 bytes)
     → now ≡ with_decided q (places_read (fetch_conditions_read (profile_of m.core) address) m) found
     → middle ≡ with_decided q ((Byte address ∷ byte_places address (length bytes)) ++ register_part r1) now
     → after ≡ walked q (subject_row rows (profile_of m.core) next long form) m middle
     → after ≡ walked q (execute_row rows (profile_of m.core) r1 address next long) m found
 execute-done q rows r1 address next long m v bytes form found now middle after clear count inside are e f h g k =
     let conditions : Reading Conditions = fetch_conditions_read (profile_of m.core) address
-    in let further : List ℕ → Row Ended = λ bytes. subject_row rows (profile_of m.core) next long (form_of bytes)
+    in let further : List ℕ → Row Ended = λ bytes. subject_row rows (profile_of m.core) next long (form_of m.core.decimal bytes)
     in let within : address + length_at m.core.storage address ≤ length m.core.storage.bytes = omega (arith, count, inside)
-    in let is : form_of (run (subject_read r1 address) m) ≡ form
-    = ap form_of (subject-is r1 address m v within e ∙ ap (with_ored_byte v r1) (sym are)) ∙ sym f
+    in let is : form_of m.core.decimal (run (subject_read r1 address) m) ≡ form
+    = ap (form_of m.core.decimal) (subject-is r1 address m v within e ∙ ap (with_ored_byte v r1) (sym are)) ∙ sym f
     in done-walked q conditions program_code (bind (subject_read r1 address) further) m found now after _ (sym (ap program_code (fetch-is address m))) clear h
     (k ∙ sym (walked-bind q (subject_read r1 address) further m now
     ∙ ap (λ x. walked q (subject_row rows (profile_of m.core) next long x) m (with_decided q (places_read (subject_read r1 address) m) now)) is
@@ -146,7 +146,7 @@ pub fetched-walked : (q : Question) (rows : FormRows) (address : ℕ) (m : Machi
     → program_code (conditions_at m.core address) ≡ None → length bytes ≡ length_at m.core.storage address
     → address + length bytes ≤ length m.core.storage.bytes → bytes ≡ instruction_bytes m.core.storage address
     → now ≡ with_decided q (Byte address ∷ byte_places address (length bytes)) found
-    → ((next : ℕ) → (long : InstructionLength) → after ≡ walked q (fetched_row rows (profile_of m.core) next long (form_of bytes)) m now)
+    → ((next : ℕ) → (long : InstructionLength) → after ≡ walked q (fetched_row rows (profile_of m.core) next long (form_of m.core.decimal bytes)) m now)
     → after ≡ walked q (unless_unfetched rows (profile_of m.core) address
     (program_code (conditions_at m.core address))) m found
 fetched-walked q rows address m bytes found now after clear long_as inside are g k =
@@ -155,7 +155,7 @@ fetched-walked q rows address m bytes found now after clear long_as inside are g
     in let next : ℕ = address + count
     in let long : InstructionLength = length_of_bytes count
     in let row : Option Form → Row Ended = fetched_row rows (profile_of m.core) next long
-    in let further : List ℕ → Row InstructionEnd = λ bytes. bind (row (form_of bytes)) (ending_with next long)
+    in let further : List ℕ → Row InstructionEnd = λ bytes. bind (row (form_of m.core.decimal bytes)) (ending_with next long)
     in let first : List Place = with_decided q (Byte address ∷ []) found
     in k next long ∙ sym (ap (λ o. walked q (unless_unfetched rows (profile_of m.core) address o) m found) clear
     ∙ walked-bind q (value_read (Byte address)) (λ code. coded_row rows (profile_of m.core) address (instruction_length code)) m found
@@ -164,9 +164,9 @@ fetched-walked q rows address m bytes found now after clear long_as inside are g
     ∙ ap (walked q (further (run (bytes_read address count) m)) m)
     (decided_both q (Byte address ∷ []) (byte_places address count) found
     ∙ ap (λ n. with_decided q (Byte address ∷ byte_places address n) found) (sym long_as) ∙ sym g)
-    ∙ ended-walked q (row (form_of (run (bytes_read address count) m)))
+    ∙ ended-walked q (row (form_of m.core.decimal (run (bytes_read address count) m)))
     (λ ended. record { ended = ended; next_address = next; instruction_length = long }) m now
-    ∙ ap (λ o. walked q (row o) m now) (ap form_of (instruction-bytes-are address m within ∙ sym are)))
+    ∙ ap (λ o. walked q (row o) m now) (ap (form_of m.core.decimal) (instruction-bytes-are address m within ∙ sym are)))
 
 -- one that could not be fetched
 pub unfetched-walked : (q : Question) (rows : FormRows) (address : ℕ) (m : Machine) (o : Option ProgramCode) (code : ProgramCode) (found : List Place)

@@ -104,7 +104,7 @@ fn push_executing(
             push_instruction(question, found, machine)?;
             Ok(())
         }
-        Ended::Program(_) => {
+        Ended::Program(_) | Ended::DecimalOverflow => {
             push_interrupted(question, found, machine, before, Class::Program)?;
             Ok(())
         }

@@ -30,6 +30,24 @@ pub(crate) struct Operand {
     pub count: u16,
 }
 
+impl Operand {
+    /// Two operands with their lengths, by the length field and their addresses.
+    pub(crate) fn pair(l: u8, first: Location, second: Location) -> (Operand, Operand)
+        ensures first { field_of result.0 ≡ first_field l first }
+        ensures second { field_of result.1 ≡ second_field l second }
+    {
+        let operand = Operand {
+            address: first,
+            count: u16::from(l / 16) + 1,
+        };
+        let other = Operand {
+            address: second,
+            count: u16::from(l % 16) + 1,
+        };
+        (operand, other)
+    }
+}
+
 /// What an access to so many bytes meets under the key of the PSW.
 pub(crate) fn check(machine: &Machine, address: Location, count: u16, kind: Access) -> Checked
     ensures { result ≡ access machine.now.whole.core.storage address count kind (protection_key_of machine.now.whole.core.psw) }

@@ -11,7 +11,9 @@ ghost use Rattle.s360_source.specs.Walks.{walked};
 use crate::address::{push_address, push_based};
 use crate::branch::{push_branch, push_index};
 use crate::converting::push_conversion;
+use crate::decimal::push_decimal;
 use crate::digits::push_digits;
+use crate::edit::push_edit;
 use crate::fields::{Operand, push_compare};
 use crate::immediate::push_immediate;
 use crate::left_to_right::push_combine;
@@ -233,15 +235,17 @@ fn push_storage(
             Ok(())
         }
         StorageRow::Digits(row) => {
-            let operand = Operand {
-                address: first,
-                count: u16::from(l / 16) + 1,
-            };
-            let other = Operand {
-                address: second,
-                count: u16::from(l % 16) + 1,
-            };
+            let (operand, other) = Operand::pair(l, first, second);
             push_digits(question, found, machine, row, &operand, &other)?;
+            Ok(())
+        }
+        StorageRow::Decimal(row) => {
+            let (operand, other) = Operand::pair(l, first, second);
+            push_decimal(question, found, machine, row, &operand, &other)?;
+            Ok(())
+        }
+        StorageRow::Edit(row) => {
+            push_edit(question, found, machine, row, first, second, count)?;
             Ok(())
         }
     }

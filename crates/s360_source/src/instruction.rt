@@ -80,7 +80,7 @@ fn push_execute(
             let ored = Part::Address(RegisterNumber::new(0), r1);
             let parts = [Part::Bytes(address, 1), Part::Bytes(address, count), ored];
             question.decide(found, &parts)?;
-            let form = decode(&with_ored_byte(view, r1, bytes));
+            let form = decode(machine.decimal(), &with_ored_byte(view, r1, bytes));
             push_subject(question, found, machine, form)?;
             Ok(())
         }
@@ -131,7 +131,7 @@ fn push_fetched(
             let count = bytes.len() as u16;
             let parts = [Part::Bytes(address, 1), Part::Bytes(address, count)];
             question.decide(found, &parts)?;
-            match decode_bytes(bytes) {
+            match decode_bytes(machine.decimal(), bytes) {
                 Some(form) => {
                     push_executed(question, found, machine, view, &form)?;
                     Ok(())

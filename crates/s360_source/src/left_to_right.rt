@@ -56,7 +56,7 @@ pub(crate) fn function_address(machine: &Machine, table: Location, address: u32)
 }
 
 /// The number of the byte at an address, if it is one of the first so many from `first` on.
-fn number_of(at: u32, first: u32, count: u32) -> Option<u32>
+pub(crate) fn number_of(at: u32, first: u32, count: u32) -> Option<u32>
     ensures some { IfSome result (λ number. (at ≡ first + number) × (number < count)) }
     ensures none { result ≡ None → first ≤ at → first + count ≤ at }
 {
@@ -68,7 +68,7 @@ fn number_of(at: u32, first: u32, count: u32) -> Option<u32>
 }
 
 /// The byte that is asked for.
-fn byte_asked(question: Question) -> Option<u32>
+pub(crate) fn byte_asked(question: Question) -> Option<u32>
     ensures { result ≡ byte_asked question }
 {
     match question {

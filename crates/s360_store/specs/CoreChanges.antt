@@ -1,12 +1,13 @@
 -- The change of a core that an event makes: the values that differ from what stands there, in the order of places (kept).
-use Rattle.std.specs.Prelude.{◌≢◌, ℕ, Option, Some, None, List, [], ◌∷◌, IfSome, nat_eq, if◌then◌else◌}
+use Rattle.std.specs.Prelude.{◌≢◌, ℕ, Option, Some, None, List, [], ◌∷◌, IfSome, nat_eq, not, if◌then◌else◌}
 use Rattle.s360_model.specs.Core.{Core, core_with_psw}
 use Rattle.s360_model.specs.Psw.{IsCurrentPsw}
 use Rattle.s360_store.specs.declared.place.Place.{Place}
-use Rattle.s360_store.specs.declared.place.Place.TheVariants.{Psw}
+use Rattle.s360_store.specs.declared.place.Place.TheVariants.{Psw, Byte}
 use Rattle.s360_store.specs.declared.place.Cell.{Cell}
 use Rattle.s360_store.specs.Cells.{AllDiffer, AreCellsOf, after_exchange, places_of_cells}
-use Rattle.s360_store.specs.Order.{IsAscending, IsBefore}
+use Rattle.std.specs.List.{filter}
+use Rattle.s360_store.specs.Order.{IsAscending, IsBefore, precedes}
 
 -- the PSW, where another one was put, and the cells of the other places
 pub record CoreChange : Type 0 where
@@ -31,6 +32,13 @@ core_with_psw_if (Some psw) m = core_with_psw psw m
 -- what it makes of a core
 abbrev pub after_core_change : Core → CoreChange → Core
 after_core_change m x = core_with_psw_if x.psw (after_exchange m x.cells)
+
+-- the cells whose places come before the byte at an address, and those whose places do not
+abbrev pub cells_before : ℕ → List Cell → List Cell
+cells_before address cs = filter (λ (c : Cell). precedes c.place (Byte address)) cs
+
+abbrev pub cells_from : ℕ → List Cell → List Cell
+cells_from address cs = filter (λ (c : Cell). not (precedes c.place (Byte address))) cs
 
 -- each of the cells comes before the place
 abbrev pub AllBefore : List Cell → Place → Type 0

@@ -144,6 +144,6 @@ pub record Appended (old_items new_items : List Item) (old_bytes new_bytes : Lis
   pub cells_are : cells_of_items items bytes ≡ cells
   pub few : length cells ≤ 1000001
 
--- a core of its parts
+-- a core of its parts, without the decimal feature
 abbrev pub core_of : ℕ → List ℕ → Storage → Core
-core_of psw registers storage = record { psw = psw; registers = registers; storage = storage }
+core_of psw registers storage = record { psw = psw; registers = registers; storage = storage; decimal = false }

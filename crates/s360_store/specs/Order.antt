@@ -1,5 +1,5 @@
 -- The order of places: by their kind, and within a kind by their number.
-use Rattle.std.specs.Prelude.{ℕ, ◌<◌, ◌≡◌, ◌⊎◌, List, [], ◌∷◌}
+use Rattle.std.specs.Prelude.{ℕ, ◌<◌, ◌≡◌, ◌⊎◌, Bool, ◌&&◌, ◌||◌, nat_eq, nat_lt, List, [], ◌∷◌}
 use Rattle.s360_store.specs.declared.place.Place.{Place}
 use Rattle.s360_store.specs.declared.place.Place.TheVariants.{Psw, Register, Byte, Key, Run, External, UnitState, UnitMedia}
 
@@ -26,6 +26,10 @@ number_of p = 0
 -- a place comes before another
 abbrev pub IsBefore : Place → Place → Type 0
 IsBefore p q = (kind_of p < kind_of q) ⊎ ((kind_of p ≡ kind_of q) × (number_of p < number_of q))
+
+-- whether it does
+abbrev pub precedes : Place → Place → Bool
+precedes p q = nat_lt (kind_of p) (kind_of q) || (nat_eq (kind_of p) (kind_of q) && nat_lt (number_of p) (number_of q))
 
 -- a place comes before each of the places
 abbrev pub IsBeforeAll : Place → List Place → Type 0

@@ -3,6 +3,7 @@ ghost use Rattle.std.specs.Prelude.{◌≡◌, ◌<◌, ◌≤◌, ◌+◌, ◌^
 ghost use Rattle.s360_store.specs.Altered.{IsBesidePsw, cells_of, register_cell};
 ghost use Rattle.s360_store.specs.Cells.{AllFit, AreCellsOf, after_exchange, byte_cells, cells_after_exchange, places_of_cells};
 ghost use Rattle.s360_store.specs.Items.{Appended};
+ghost use Rattle.s360_store.specs.Plans.{planned_value};
 
 use crate::cells::Cells;
 use crate::core_state::Core;
@@ -91,6 +92,13 @@ impl Altered {
         }
     }
 
+    /// No cell, with memory from where that of these is.
+    pub(crate) fn none(&self) -> Altered
+        ensures { result ≡ [] }
+    {
+        Altered::new(self.others.alloc())
+    }
+
     /// Drops all cells, and keeps their memory.
     #[inline(always)]
     pub(crate) fn clear(&mut self)
@@ -136,6 +144,30 @@ impl Altered {
         match self.register {
             Some(altered) => register_cell(altered).place,
             None => self.others.cell(i).place,
+        }
+    }
+
+    /// The cell at `i`, counted from 0.
+    pub(crate) fn cell(&self, i: u32) -> Cell
+        requires { i < length self.now }
+        ensures { slice_get self.now i ≡ Some result }
+    {
+        match self.register {
+            Some(altered) => register_cell(altered),
+            None => self.others.cell(i),
+        }
+    }
+
+    /// The value of the cell of a place, if there is one: of the first, if there are several.
+    pub(crate) fn value(&self, place: Place) -> Option<u64>
+        ensures { result ≡ planned_value self.now place }
+    {
+        match self.register {
+            Some(altered) => {
+                let cell = register_cell(altered);
+                if cell.place == place { Some(cell.value) } else { None }
+            }
+            None => self.others.value(place),
         }
     }
 

@@ -86,6 +86,11 @@ impl Cells {
         }
     }
 
+    /// Where their memory is from.
+    pub(crate) fn alloc(&self) -> Global {
+        *self.items.allocator()
+    }
+
     /// Drops all cells, and keeps their memory.
     #[inline(always)]
     pub fn clear(&mut self)

@@ -1,13 +1,13 @@
 //! The change of a core that an event makes. It takes what the event puts, and keeps those values that differ from what
 //! stands there.
-ghost use Rattle.std.specs.Prelude.{◌≡◌, ◌<◌, ◌≤◌, ◌+◌, ◌∷◌, [], None, Some, OnErr, OnOk, length, slice_get, true};
+ghost use Rattle.std.specs.Prelude.{◌≡◌, ◌<◌, ◌≤◌, ◌+◌, ◌++◌, ◌∷◌, [], None, Some, OnErr, OnOk, length, slice_get, true};
 ghost use Rattle.s360_model.specs.Psw.{IsCurrentPsw};
 ghost use Rattle.s360_store.specs.Altered.{IsBesidePsw};
 ghost use Rattle.s360_store.specs.Cells.{AllFit, AreCellsOf, after_exchange, byte_cells, cells_after_exchange, places_of_cells};
-ghost use Rattle.s360_store.specs.CoreChanges.{AllBefore, cells_of_change, other_psw, psw_cell};
+ghost use Rattle.s360_store.specs.CoreChanges.{AllBefore, cells_before, cells_from, cells_of_change, other_psw, psw_cell};
 ghost use Rattle.s360_store.specs.Items.{Appended};
 ghost use Rattle.s360_store.specs.Differences.{KeepsAltering};
-ghost use Rattle.s360_store.specs.Order.{IsAscending};
+ghost use Rattle.s360_store.specs.Order.{IsAscending, precedes};
 ghost use Rattle.s360_store.specs.Plans.{HasBytes};
 ghost use Rattle.s360_store.specs.declared.place.Place.TheVariants.{Byte, Psw as psw_place};
 
@@ -178,6 +178,45 @@ fn keep_bytes(core: &Core, address: u32, new: &[u8], kept: &mut Altered) -> Resu
     Ok(())
 }
 
+/// Whether a place comes before a byte of storage.
+fn precedes(place: Place, address: u32) -> bool
+    ensures { result ≡ precedes place (Byte address) }
+{
+    match place {
+        Place::Psw | Place::Register(_) => true,
+        Place::Byte(at) => at < address,
+        _ => false,
+    }
+}
+
+/// Adds the cells whose places come before a byte of storage.
+fn push_before(address: u32, cells: &Altered, to: &mut Altered) -> Result<(), AllocError>
+    requires room { length to.old + length cells.now ≤ 1000000 }
+    ensures { OnOk result (to.new ≡ to.old ++ cells_before address cells.now) }
+{
+    for i in 0..cells.len() {
+        let cell = cells.cell(i);
+        if precedes(cell.place, address) {
+            to.push(cell)?;
+        }
+    }
+    Ok(())
+}
+
+/// Adds those whose places do not.
+fn push_from(address: u32, cells: &Altered, to: &mut Altered) -> Result<(), AllocError>
+    requires room { length to.old + length cells.now ≤ 1000000 }
+    ensures { OnOk result (to.new ≡ to.old ++ cells_from address cells.now) }
+{
+    for i in 0..cells.len() {
+        let cell = cells.cell(i);
+        if !precedes(cell.place, address) {
+            to.push(cell)?;
+        }
+    }
+    Ok(())
+}
+
 /// A change keeps what differs.
 impl Puts for CoreChange {
     ghost use Rattle.std.specs.Prelude.{length};
@@ -196,6 +235,13 @@ impl Puts for CoreChange {
         match self.psw {
             Some(psw) => psw,
             None => core.psw(),
+        }
+    }
+
+    fn byte(&self, core: &Core, address: u32) -> u8 {
+        match self.cells.value(Place::Byte(address)) {
+            Some(byte) => byte as u8,
+            None => core.storage().byte(address),
         }
     }
 
@@ -223,6 +269,24 @@ impl Puts for CoreChange {
         // So no address of the run passes 32 bits.
         let _ = core.storage();
         keep_bytes(core, address, bytes, &mut self.cells)?;
+        Ok(())
+    }
+
+    #[cold]
+    fn put_bytes_over(
+        &mut self,
+        core: &Core,
+        address: u32,
+        bytes: &[u8],
+    ) -> Result<(), AllocError> {
+        // So no address of the run passes 32 bits.
+        let _ = core.storage();
+        let end = address + bytes.len() as u32;
+        let mut cells = self.cells.none();
+        push_before(address, &self.cells, &mut cells)?;
+        keep_bytes(core, address, bytes, &mut cells)?;
+        push_from(end, &self.cells, &mut cells)?;
+        self.cells = cells;
         Ok(())
     }
 

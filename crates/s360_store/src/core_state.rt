@@ -1,7 +1,7 @@
-//! What an instruction works on: the current PSW, the general registers and main storage. Source:
-//! GA22-6821, "System Structure".
+//! What an instruction works on: the current PSW, the general registers and main storage, and whether there is
+//! the decimal feature. Source: GA22-6821, "System Structure".
 ghost use Rattle.std.specs.Prelude.{◌≡◌, ◌<◌, ◌≤◌, ◌^◌, IfOk, length, slice_index, true};
-ghost use Rattle.s360_model.specs.Core.{zero_core_with, core_with_psw, core_with_word};
+ghost use Rattle.s360_model.specs.Core.{zero_core_with, core_with_psw, core_with_word, with_decimal};
 ghost use Rattle.s360_model.specs.Psw.{IsCurrentPsw};
 ghost use Rattle.s360_store.specs.Cells.{AllFit, AreCellsOf, after_exchange, byte_cells, cells_after_exchange};
 ghost use Rattle.s360_store.specs.Items.{AreItems, bytes_of_items, cells_of_items, core_of};
@@ -17,28 +17,29 @@ use std::alloc::AllocError;
 use std::marker::Model;
 use std::mem;
 
-/// The current PSW, the sixteen general registers and main storage.
+/// The current PSW, the sixteen general registers and main storage, and whether there is the decimal feature.
 #[derive(Drop)]
 pub struct Core {
     psw: Psw,
     registers: [Word; 16],
     storage: Storage,
+    decimal: bool,
 }
 
 impl Model for Core {
     ghost use Rattle.std.specs.Prelude.{◌≡◌, length};
-    ghost use Rattle.s360_model.specs.Core.{Core as Contents};
+    ghost use Rattle.s360_model.specs.Core.{Core as Contents, with_decimal};
     ghost use Rattle.s360_store.specs.Items.{core_of};
 
     ghost Value = { Contents };
 
-    ghost view = { λ c. core_of c.psw c.registers c.storage };
+    ghost view = { λ c. with_decimal c.decimal (core_of c.psw c.registers c.storage) };
 
     ghost invariant = { λ c. length c.registers ≡ 16 };
 }
 
 impl Core {
-    /// A core of its parts.
+    /// A core of its parts, without the decimal feature.
     pub fn new(psw: Psw, registers: [Word; 16], storage: Storage) -> Core
         ensures { result ≡ core_of psw registers storage }
     {
@@ -46,10 +47,18 @@ impl Core {
             psw,
             registers,
             storage,
+            decimal: false,
         }
     }
 
-    /// A core with this storage, and with PSW and registers zero.
+    /// The same core with the decimal feature, or without it. No event alters that.
+    pub fn with_decimal(self, decimal: bool) -> Core
+        ensures { result ≡ with_decimal decimal self }
+    {
+        Core { decimal, ..self }
+    }
+
+    /// A core with this storage, and with PSW and registers zero, without the decimal feature.
     pub fn with(storage: Storage) -> Core
         ensures { result ≡ zero_core_with storage }
     {
@@ -61,7 +70,15 @@ impl Core {
         ensures { IfOk result (λ core. core ≡ self.now) }
     {
         let storage = self.storage.copy()?;
-        Ok(Core::new(self.psw, self.registers, storage))
+        Ok(Core::new(self.psw, self.registers, storage).with_decimal(self.decimal))
+    }
+
+    /// Whether there is the decimal feature.
+    #[inline(always)]
+    pub fn decimal(&self) -> bool
+        ensures { result ≡ self.now.decimal }
+    {
+        self.decimal
     }
 
     /// The current PSW.

@@ -1,6 +1,6 @@
 //! What takes the values that an event puts at places. A row of an instruction is generic over it: a plan keeps them as
 //! they are put.
-ghost use Rattle.std.specs.Prelude.{ℕ, ◌≡◌, ◌≤◌, ◌+◌, ◌<◌, OnOk, length};
+ghost use Rattle.std.specs.Prelude.{ℕ, ◌≡◌, ◌≤◌, ◌+◌, ◌<◌, OnOk, length, slice_index};
 ghost use Rattle.s360_model.specs.Core.{Core as Contents, core_with_bytes, core_with_key, core_with_psw, core_with_word};
 ghost use Rattle.s360_store.specs.Order.{IsBefore};
 ghost use Rattle.s360_store.specs.Plans.{CanHaveKey, HasBytes};
@@ -34,6 +34,12 @@ pub trait Puts {
     fn psw(&self, core: &Core) -> Psw
         requires may { may self.now core.now }
         ensures { result ≡ (made self.now core.now).psw };
+
+    /// The byte at an address as the puts so far leave it.
+    fn byte(&self, core: &Core, address: u32) -> u8
+        requires may { may self.now core.now }
+        requires inside { HasBytes address 1 core.now }
+        ensures { result ≡ slice_index (made self.now core.now).storage.bytes address };
 
     /// Puts a PSW, in place of the one that was put.
     fn put_psw(&mut self, core: &Core, psw: Psw) -> Result<(), AllocError>
@@ -71,6 +77,21 @@ pub trait Puts {
         ensures keys { OnOk result ((b : ℕ) → past self.new (Key b)) }
         ensures few { OnOk result (count self.new ≤ count self.old + length bytes.now) };
 
+    /// Puts bytes from an address on whatever was put before, in place of those that were put there. No other place is put
+    /// after them. It looks at all puts so far.
+    fn put_bytes_over(
+        &mut self,
+        core: &Core,
+        address: u32,
+        bytes: &[u8],
+    ) -> Result<(), AllocError>
+        requires may { may self.old core.now }
+        requires inside { HasBytes address (length bytes.now) core.now }
+        requires few { count self.old + length bytes.now ≤ 1000000 }
+        ensures made { OnOk result (made self.new core.now ≡ core_with_bytes address bytes.now (made self.old core.now)) }
+        ensures may { OnOk result (may self.new core.now) }
+        ensures few { OnOk result (count self.new ≤ count self.old + length bytes.now) };
+
     /// Puts a storage key and a fetch bit of a block, by the block's number from 0.
     fn put_key(&mut self, core: &Core, block: u32, key: BlockKey) -> Result<(), AllocError>
         requires may { may self.old core.now }
@@ -103,6 +124,13 @@ impl Puts for Plan {
         }
     }
 
+    fn byte(&self, core: &Core, address: u32) -> u8 {
+        match self.value(Place::Byte(address)) {
+            Some(byte) => byte as u8,
+            None => core.storage().byte(address),
+        }
+    }
+
     fn put_psw(&mut self, _: &Core, psw: Psw) -> Result<(), AllocError> {
         Plan::put_psw(self, psw)?;
         Ok(())
@@ -125,6 +153,15 @@ impl Puts for Plan {
         let _ = core.storage();
         Plan::put_bytes(self, address, bytes)?;
         Ok(())
+    }
+
+    fn put_bytes_over(
+        &mut self,
+        core: &Core,
+        address: u32,
+        bytes: &[u8],
+    ) -> Result<(), AllocError> {
+        Puts::put_bytes(self, core, address, bytes)
     }
 
     fn put_key(&mut self, _: &Core, block: u32, key: BlockKey) -> Result<(), AllocError> {

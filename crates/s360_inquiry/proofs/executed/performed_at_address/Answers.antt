@@ -7,4 +7,4 @@ pub returns-in-Ok : goal.returns-in-Ok
 returns-in-Ok c =
     c.performed_if.ensures
     ∙ performed-fetched c.args.view.now c.decode_bytes.result c.instruction_address.result c.protection_key.result c.storage.result.now
-    c.storage.ensures.storage (cc) (cc) c.in-Ok.ensures.none (c.decode_bytes.ensures ∙ ap form_of c.in-Ok.ensures.bytes)
+    c.storage.ensures.storage (cc) (cc) c.in-Ok.ensures.none (rw (c.decimal.ensures, c.core.ensures) at c.decode_bytes.ensures ∙ ap (form_of c.args.view.now.core.decimal) c.in-Ok.ensures.bytes)

@@ -7,7 +7,7 @@ use Rattle.s360_logic.proofs.dispatch.put_bytes.Goals as goal
 
 pub returns-in_default : goal.returns-in_default
 returns-in_default g c =
-    let none : form_of c.args.bytes.now ≡ None = search (tests, rules)
+    let none : form_of c.args.view.now.core.decimal c.args.bytes.now ≡ None = search (tests, rules)
     in rw none (record {
       ends = refl;
       makes = c.requires.none.same;

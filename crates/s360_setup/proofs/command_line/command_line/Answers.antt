@@ -16,4 +16,5 @@ returns c =
     let protect0 = app_of-added _ _ _ _ _ tape1 c.flag.ensures.row c.flag.ensures.own c.in_ok-arg-5.ensures in
     let protect1 = app_of-added _ _ _ _ _ protect0 c.flag-2.ensures.row c.flag-2.ensures.own c.in_ok-arg-6.ensures in
     let fetch = app_of-added _ _ _ _ _ protect1 c.flag-3.ensures.row c.flag-3.ensures.own c.in_ok-arg-7.ensures in
-    IfOk-weaker c.arg-8.result _ _ (λ command adds. app_of-added _ _ _ command _ fetch c.operand.ensures.row c.operand.ensures.own adds) c.arg-8.ensures
+    let decimal = app_of-added _ _ _ _ _ fetch c.flag-4.ensures.row c.flag-4.ensures.own c.in_ok-arg-8.ensures in
+    IfOk-weaker c.arg-9.result _ _ (λ command adds. app_of-added _ _ _ command _ decimal c.operand.ensures.row c.operand.ensures.own adds) c.arg-9.ensures

@@ -28,6 +28,11 @@ returns-clause-fetch g c =
     c.is_given-3.ensures
     ∙ flag-given c.args.program c.in_ok-command_line.field-0 (map g.S.AsStr.text c.args.words.now) c.in_ok-matches.matches (codes "fetch") c.in_ok-command_line.ensures c.in_ok-matches.ensures.matches
 
+pub returns-clause-decimal : goal.returns-clause-decimal
+returns-clause-decimal g c =
+    c.is_given-4.ensures
+    ∙ flag-given c.args.program c.in_ok-command_line.field-0 (map g.S.AsStr.text c.args.words.now) c.in_ok-matches.matches (codes "decimal") c.in_ok-command_line.ensures c.in_ok-matches.ensures.matches
+
 pub returns-clause-script : goal.returns-clause-script
 returns-clause-script g c =
     c.get_str-5.ensures

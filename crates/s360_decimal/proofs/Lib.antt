@@ -1,0 +1,6 @@
+pub mod DigitLemmas
+pub mod OperandLemmas
+pub mod FieldLemmas
+pub mod ProductLemmas
+pub mod LawLemmas
+mod KnownDecimal
