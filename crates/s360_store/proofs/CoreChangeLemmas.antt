@@ -130,11 +130,11 @@ bytes-plan m cs a bs h b inside fits =
 kept-itself : (m : Core) (cs : List Cell) → AreCellsOf m cs → AllDiffer m cs → AreKept m cs cs
 kept-itself m cs h d = record { cells = h; makes = refl; among = λ p f. f; alter = d }
 
-bytes-kept : (m : Core) (x : CoreChange) (new : List Cell) (a : ℕ) (bs : List ℕ) → IsCoreChange m x → AllBefore x.cells (Byte a) → HasBytes a (length bs) m → ((i : ℕ) → i < length bs → get_or bs i 0 < 256)
+pub bytes-kept : (m : Core) (x : CoreChange) (new : List Cell) (a : ℕ) (bs : List ℕ) → IsCoreChange m x → AllBefore x.cells (Byte a) → HasBytes a (length bs) m → ((i : ℕ) → i < length bs → get_or bs i 0 < 256)
     → KeepsAltering m (byte_cells a bs) x.cells new → AreKept m (x.cells ++ byte_cells a bs) new
 bytes-kept m x new a bs h b inside fits k = k x.cells (bytes-plan m x.cells a bs h.cells b inside fits).cells (kept-itself m x.cells h.cells h.differ)
 
-if-bytes : (p : Option ℕ) (a : ℕ) (bs : List ℕ) (n : Core) → core_with_psw_if p (core_with_bytes a bs n) ≡ core_with_bytes a bs (core_with_psw_if p n)
+pub if-bytes : (p : Option ℕ) (a : ℕ) (bs : List ℕ) (n : Core) → core_with_psw_if p (core_with_bytes a bs n) ≡ core_with_bytes a bs (core_with_psw_if p n)
 if-bytes None a bs n = refl
 if-bytes (Some psw) a bs n = refl
 
@@ -150,14 +150,14 @@ bytes-may m x new a bs h b inside fits k asc =
     in record { psw = h.psw; cells = kept.cells; differ = kept.alter; ascending = asc }
 
 -- the change is that to what it makes
-fresh-psw : (cs : List Cell) → IsBeforeAll Psw (places_of_cells cs) → IsFresh Psw cs
-fresh-psw [] h = tt
-fresh-psw (c ∷ cs) h = (λ e. not-before-itself Psw (subst (λ q. IsBefore Psw q) (sym e) h.0), fresh-psw cs h.1)
+pub fresh-first : (p : Place) (cs : List Cell) → IsBeforeAll p (places_of_cells cs) → IsFresh p cs
+fresh-first p [] h = tt
+fresh-first p (c ∷ cs) h = (λ e. not-before-itself p (subst (λ q. IsBefore p q) (sym e) h.0), fresh-first p cs h.1)
 
 change-to : (m : Core) (p : Option ℕ) (cs : List Cell) → IsCoreChange m (record { psw = p; cells = cs }) → IsCoreChangeTo m (cells_of_change (record { psw = p; cells = cs })) (after_core_change m (record { psw = p; cells = cs }))
 change-to m None cs h = record { cells = h.cells; makes = refl; lists = places_of_cells-differences m cs h.cells h.differ h.ascending.1 }
 change-to m (Some psw) cs h =
-    let cells : AreCellsOf m (psw_cell psw ∷ cs) = (tt, h.psw.0, fresh-psw cs h.ascending.0, h.cells)
+    let cells : AreCellsOf m (psw_cell psw ∷ cs) = (tt, h.psw.0, fresh-first Psw cs h.ascending.0, h.cells)
     in let made : after_exchange m (psw_cell psw ∷ cs) ≡ core_with_psw psw (after_exchange m cs) = psw-apart m cs psw h.ascending.0
     in record {
       cells = cells;
@@ -188,3 +188,10 @@ psw-none m x h e = rw e (sym (psw-left m x.cells h.ascending.0))
 
 pub psw-some : (m : Core) (x : CoreChange) (psw : ℕ) → x.psw ≡ Some psw → psw ≡ (after_core_change m x).psw
 psw-some m x psw e = rw e refl
+
+-- the storage that a change leaves is that of its cells
+pub storage-made : (m : Core) (x : CoreChange) → (after_core_change m x).storage ≡ (after_exchange m x.cells).storage
+storage-made m x = by x.psw where
+  by : (p : Option ℕ) → (core_with_psw_if p (after_exchange m x.cells)).storage ≡ (after_exchange m x.cells).storage
+  by None = refl
+  by (Some psw) = refl

@@ -254,7 +254,7 @@ pub IsFresh-item : (i : Item) (p : Place) (bs : List ℕ) → has_place i p ≡ 
 IsFresh-item (Single c) p bs h = ((λ e. let same : same_place c.place p ≡ true = rw e (same_place-refl c.place) in cc), tt)
 IsFresh-item (Run a n) p bs h = IsFresh-run a n p (take n bs) (length-take-most n bs) h
 
-IsFresh-append : (p : Place) (cs ds : List Cell) → IsFresh p cs → IsFresh p ds → IsFresh p (cs ++ ds)
+pub IsFresh-append : (p : Place) (cs ds : List Cell) → IsFresh p cs → IsFresh p ds → IsFresh p (cs ++ ds)
 IsFresh-append p [] ds h k = k
 IsFresh-append p (c ∷ cs) ds h k = (h.0, IsFresh-append p cs ds h.1 k)
 

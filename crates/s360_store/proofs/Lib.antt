@@ -18,3 +18,5 @@ pub mod SpanLemmas
 pub mod DifferingLemmas
 pub mod KeepLemmas
 pub mod CoreChangeLemmas
+pub mod OverLemmas
+pub mod DecimalLemmas

@@ -1,13 +1,13 @@
 -- What a plan makes of a core, one put after another.
-use Rattle.std.proofs.Common.{◌≡◌, ℕ, List, [], ◌∷◌, refl, ap, sym, ◌∙◌, Bool, true, false, cond, Some, None, unwrap_or}
+use Rattle.std.proofs.Common.{◌≡◌, ℕ, List, [], ◌∷◌, refl, ap, sym, ◌∙◌, Bool, true, false, cond, Some, None, slice_index, unwrap_or, arith}
 use Rattle.s360_model.specs.Core.{Core}
 use Rattle.s360_model.specs.Psw.{current_psw}
 use Rattle.s360_store.specs.declared.place.Place.{Place}
-use Rattle.s360_store.specs.declared.place.Place.TheVariants.{Psw}
+use Rattle.s360_store.specs.declared.place.Place.TheVariants.{Psw, Byte}
 use Rattle.s360_store.specs.declared.place.Cell.{Cell}
 use Rattle.s360_store.specs.Places.{same_place, with_value, value_at, IsPlaceOf, Fits}
 use Rattle.s360_store.specs.Cells.{after_exchange, HasEachOnce, AreCellsOf}
-use Rattle.s360_store.specs.Plans.{after_put, planned_value, IsPlanOf}
+use Rattle.s360_store.specs.Plans.{after_put, planned_value, HasBytes, IsPlanOf}
 use Rattle.s360_store.proofs.PlaceLemmas.{value_at-same, value_at-other, IsPlaceOf-kept}
 use Rattle.s360_store.proofs.PlanLemmas.{same_place-true, differs, IsFresh-after_put, after_exchange-after_put}
 use Rattle.s360_store.proofs.ExchangeLemmas.{value_at-after_exchange, AreCellsOf-kept}
@@ -67,3 +67,10 @@ planned_psw-some m cs v h e = (planned_value-fits m cs Psw v h e).1 ∙ sym (val
 
 pub planned_psw-none : (m : Core) (cs : List Cell) → AreCellsOf m cs → planned_value cs Psw ≡ None → m.psw ≡ (after_exchange m cs).psw
 planned_psw-none m cs h e = sym (value_at-plan m cs Psw h tt ∙ ap (λ o. unwrap_or o (value_at m Psw)) e)
+
+-- the byte that a plan leaves
+pub planned_byte-some : (m : Core) (cs : List Cell) (a v : ℕ) → AreCellsOf m cs → HasBytes a 1 m → planned_value cs (Byte a) ≡ Some v → v ≡ slice_index (after_exchange m cs).storage.bytes a
+planned_byte-some m cs a v h i e = sym (value_at-plan m cs (Byte a) h (omega (arith, i)) ∙ ap (λ o. unwrap_or o (value_at m (Byte a))) e)
+
+pub planned_byte-none : (m : Core) (cs : List Cell) (a : ℕ) → AreCellsOf m cs → HasBytes a 1 m → planned_value cs (Byte a) ≡ None → slice_index m.storage.bytes a ≡ slice_index (after_exchange m cs).storage.bytes a
+planned_byte-none m cs a h i e = sym (value_at-plan m cs (Byte a) h (omega (arith, i)) ∙ ap (λ o. unwrap_or o (value_at m (Byte a))) e)

@@ -165,7 +165,11 @@ impl Altered {
         match self.register {
             Some(altered) => {
                 let cell = register_cell(altered);
-                if cell.place == place { Some(cell.value) } else { None }
+                if cell.place.is(place) {
+                    Some(cell.value)
+                } else {
+                    None
+                }
             }
             None => self.others.value(place),
         }

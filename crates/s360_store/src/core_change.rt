@@ -191,7 +191,7 @@ fn precedes(place: Place, address: u32) -> bool
 
 /// Adds the cells whose places come before a byte of storage.
 fn push_before(address: u32, cells: &Altered, to: &mut Altered) -> Result<(), AllocError>
-    requires room { length to.old + length cells.now ≤ 1000000 }
+    requires room { length to.old + length (cells_before address cells.now) ≤ 1000000 }
     ensures { OnOk result (to.new ≡ to.old ++ cells_before address cells.now) }
 {
     for i in 0..cells.len() {
@@ -205,7 +205,7 @@ fn push_before(address: u32, cells: &Altered, to: &mut Altered) -> Result<(), Al
 
 /// Adds those whose places do not.
 fn push_from(address: u32, cells: &Altered, to: &mut Altered) -> Result<(), AllocError>
-    requires room { length to.old + length cells.now ≤ 1000000 }
+    requires room { length to.old + length (cells_from address cells.now) ≤ 1000000 }
     ensures { OnOk result (to.new ≡ to.old ++ cells_from address cells.now) }
 {
     for i in 0..cells.len() {

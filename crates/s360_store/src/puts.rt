@@ -79,12 +79,7 @@ pub trait Puts {
 
     /// Puts bytes from an address on whatever was put before, in place of those that were put there. No other place is put
     /// after them. It looks at all puts so far.
-    fn put_bytes_over(
-        &mut self,
-        core: &Core,
-        address: u32,
-        bytes: &[u8],
-    ) -> Result<(), AllocError>
+    fn put_bytes_over(&mut self, core: &Core, address: u32, bytes: &[u8]) -> Result<(), AllocError>
         requires may { may self.old core.now }
         requires inside { HasBytes address (length bytes.now) core.now }
         requires few { count self.old + length bytes.now ≤ 1000000 }
