@@ -1,3 +1,4 @@
 pub mod PutLemmas
 pub mod RegisterLemmas
 pub mod OperandLemmas
+pub mod TableLemmas

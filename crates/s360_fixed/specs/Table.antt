@@ -100,7 +100,7 @@ rows =
     ∷ row 0xF3 Ss Operation.Unpack
     ∷ []
 
--- what a machine with the decimal feature has beside them
+-- what a machine with the decimal feature has behind them
 abbrev pub decimal_rows : List (ℕ × Entry)
 decimal_rows =
     row 0xDE Ss Operation.Edit
@@ -115,7 +115,7 @@ decimal_rows =
 
 -- the format and the operation of a code, by the rows of a machine with the decimal feature or without it
 abbrev pub entry_of : Bool → ℕ → Option Entry
-entry_of decimal code = entry_in (if decimal then decimal_rows ++ rows else rows) code
+entry_of decimal code = entry_in (rows ++ (if decimal then decimal_rows else [])) code
 
 -- the length of an instruction in bytes, by the first two bits of its code: 2 for 00, 4 for 01 and 10, 6 for 11
 abbrev pub instruction_length : ℕ → ℕ

@@ -1,8 +1,8 @@
 //! The length of an instruction, and its operation and fields from its bytes. Source: GA22-6821,
 //! "System Structure", program execution, and "Operation Codes".
-ghost use Rattle.std.specs.Prelude.{◌≡◌, ◌<◌, ◌≤◌, ◌+◌, IfSome, Some, false, length, slice_index};
+ghost use Rattle.std.specs.Prelude.{◌≡◌, ◌<◌, ◌≤◌, ◌+◌, IfSome, Some, length, slice_index};
 ghost use Rattle.s360_model.specs.Tables.{entry_in};
-ghost use Rattle.s360_fixed.specs.Table.{bytes_of_format, decimal_rows, displacement_at, entry_of, form_of, form_with};
+ghost use Rattle.s360_fixed.specs.Table.{bytes_of_format, decimal_rows, displacement_at, entry_of, form_of, form_with, rows};
 ghost use Rattle.s360_fixed.specs.Table.{high_digit, instruction_length, low_digit};
 ghost use Rattle.arrayvec.specs.ArrayVec.{array_vec_len};
 
@@ -32,7 +32,7 @@ const fn entry(format: Format, operation: Operation) -> Option<Entry>
 
 /// The format and the operation of a code that every machine has.
 fn entry_at(code: u8) -> Option<Entry>
-    ensures entry { result ≡ entry_of false code }
+    ensures entry { result ≡ entry_in rows code }
     ensures length { IfSome result (λ e. bytes_of_format e.format ≡ instruction_length code) }
 {
     match code {
@@ -151,12 +151,11 @@ fn entry_with(decimal: bool, code: u8) -> Option<Entry>
     ensures entry { result ≡ entry_of decimal code }
     ensures length { IfSome result (λ e. bytes_of_format e.format ≡ instruction_length code) }
 {
-    if decimal {
-        if let Some(entry) = decimal_entry_at(code) {
-            return Some(entry);
-        }
+    match entry_at(code) {
+        Some(entry) => Some(entry),
+        None if decimal => decimal_entry_at(code),
+        None => None,
     }
-    entry_at(code)
 }
 
 /// The register that the high digit of a byte names.
