@@ -131,7 +131,7 @@ sums-are_exact ascii count exact some few =
 ended-byte : (rules : EditRules) (source : Source) (e : Editing) (pattern : ℕ) (fault : EditFault) → e.fault ≡ Some fault → edited_byte rules source e pattern ≡ e
 ended-byte rules source e pattern fault h = rw h refl
 
-ended : (rules : EditRules) (source : Source) (e : Editing) (pattern : List ℕ) (fault : EditFault) → e.fault ≡ Some fault → edited rules source e pattern ≡ e
+pub ended : (rules : EditRules) (source : Source) (e : Editing) (pattern : List ℕ) (fault : EditFault) → e.fault ≡ Some fault → edited rules source e pattern ≡ e
 unfolding edited
 ended rules source e [] fault h = refl
 ended rules source e (p ∷ ps) fault h = rw (ended-byte rules source e p fault h) (ended rules source e ps fault h)
@@ -155,7 +155,7 @@ unless_ended : (fault : Option EditFault) (e a : Editing) → e.fault ≡ fault 
 unless_ended None e a is h k = h k
 unless_ended (Some fault) e a is h k = let none : Some fault ≡ None = sym is ∙ k in absurd (cc)
 
-byte-made : (rules : EditRules) (source : Source) (e : Editing) (pattern : ℕ) → (edited_byte rules source e pattern).fault ≡ None → length (edited_byte rules source e pattern).made ≡ length e.made + 1
+pub byte-made : (rules : EditRules) (source : Source) (e : Editing) (pattern : ℕ) → (edited_byte rules source e pattern).fault ≡ None → length (edited_byte rules source e pattern).made ≡ length e.made + 1
 byte-made rules source e pattern =
     unless_ended e.fault e _ refl
     (chosen (fetches e.state pattern) e (with_source rules e pattern (source e.made e.used)) (with_optional_step e 0 (edit_step rules e.state pattern 0)) (by_source rules e pattern (source e.made e.used)) (by_step e 0 (edit_step rules e.state pattern 0)))
