@@ -8,7 +8,9 @@ use Rattle.s360_model.specs.Psw.{with_instruction_address}
 use Rattle.s360_store.specs.Differing.{IsFirstOther}
 use Rattle.s360_fixed.specs.Alterations.{psw_with}
 use Rattle.s360_fixed.specs.View.{View}
-use Rattle.s360_logic.specs.Bytes.{completed_with, byte_at, operand_bytes, with_byte}
+use Rattle.s360_logic.specs.declared.field.Field.{Field}
+use Rattle.s360_logic.specs.Bytes.{byte_at, completed_with, operand_bytes, with_byte}
+use Rattle.s360_logic.specs.Decimal.{result_stored}
 use Rattle.s360_logic.specs.Operands.{FirstOperand, stored_in}
 use Rattle.s360_logic.specs.LeftToRight.{comparison_code, function_address, left_to_right}
 
@@ -89,11 +91,14 @@ comparison_code-first s first second n k bytes others own its count h =
     let inside : i < n = omega (arith, l, h.within, count)
     in sym (operand_bytes-at s first n i inside) ∙ ap (λ xs. get_or xs i 0) (sym own) ∙ sym (h.before i (omega arith) l) ∙ ap (λ xs. get_or xs i 0) its ∙ operand_bytes-at s second n i inside)
 
--- the PSW with a condition code, and then the bytes of an operand
-pub stored-made : (v : View) (o : FirstOperand) (code : Option ℕ) (psw : ℕ) (a b c : Core) → a ≡ v.core → b ≡ core_with_psw psw a → c ≡ core_with_bytes o.address o.bytes b
-    → psw ≡ with_instruction_address (psw_with code v.core.psw) v.next_address → o.storage ≡ v.core.storage
-    → c ≡ (completed_with v code (stored_in o)).core
-stored-made v o code psw a b c none first then is same = rw (then, first, none, is, same) refl
+-- the PSW with a condition code, and then the bytes of a result
+pub stored-made : (v : View) (first : Field) (result : List ℕ) (code : Option ℕ) (psw : ℕ) (a b c : Core) → a ≡ v.core → b ≡ core_with_psw psw a → c ≡ core_with_bytes first.address result b
+    → psw ≡ with_instruction_address (psw_with code v.core.psw) v.next_address → c ≡ (result_stored v first code result).core
+stored-made v first result code psw a b c none before then is = rw (then, before, none, is) refl
+
+pub result-stored_in : (v : View) (o : FirstOperand) (code : Option ℕ) (bytes : List ℕ) (address count : ℕ) → o.storage ≡ v.core.storage → bytes ≡ o.bytes → address ≡ o.address
+    → result_stored v (record { address = address; count = count }) code bytes ≡ completed_with v code (stored_in o)
+result-stored_in v o code bytes address count same are here = rw (are, here, ← same) refl
 
 -- each other byte stays
 pub stored_in-other : (o : FirstOperand) (i b x : ℕ) → i < length o.bytes → o.address + length o.bytes ≤ length o.storage.bytes → x ≢ o.address + i

@@ -1,6 +1,6 @@
 -- EDIT and EDIT AND MARK in storage: the pattern is replaced by the result (GA22-6821, "Decimal Arithmetic"). What each byte of the pattern comes to stands in
 -- s360_decimal. A byte that was stored is seen by later fetches of the source (own profile).
-use Rattle.std.specs.Prelude.{◌≡◌, ℕ, ◌+◌, Bool, nat_eq, if◌then◌else◌, Option, None, Some, List, ◌++◌, drop, length, option_map, slice_index}
+use Rattle.std.specs.Prelude.{◌≡◌, ◌≤◌, ℕ, ◌+◌, Bool, nat_eq, if◌then◌else◌, Option, None, Some, List, ◌++◌, drop, length, option_map, slice_index}
 use Rattle.std.specs.Option.{option_map_or}
 use Rattle.s360_model.specs.{Core.Core, Core.core_with_word, Psw.ascii_mode_of, Storage.Storage, Storage.is_inside}
 use Rattle.s360_store.specs.declared.protection.{Access.TheVariants.Fetch, Access.TheVariants.Store, Checked.Checked}
@@ -10,7 +10,7 @@ use Rattle.s360_fixed.specs.{Operands.conditions_of, Outcomes.unless_met, Progra
 use Rattle.s360_decimal.specs.declared.edit.EditRules.{EditRules}
 use Rattle.s360_decimal.specs.Editing.{Editing, EditFault, Source, bad_digit, edit_code, edited, editing_start, outside}
 use Rattle.s360_logic.specs.declared.{field.Field.Field, row.EditRow.EditRow, edit.EditFault.EditFault as CodeFault, edit.Editing.Editing as CodeEditing}
-use Rattle.s360_logic.specs.Bytes.{byte_at, field_access}
+use Rattle.s360_logic.specs.Bytes.{byte_at, field_access, operand_bytes}
 use Rattle.s360_logic.specs.Decimal.{bytes_of_field, ended_with, result_stored, with_result}
 use Rattle.s360_logic.specs.LeftToRight.{field_at, with_address}
 use Rattle.s360_logic.specs.Operands.{FirstOperand}
@@ -68,10 +68,12 @@ pub record IsEditing (e : Editing) (c : CodeEditing) : Type 0 where
   pub mark : c.mark ≡ e.mark
   pub fault : option_map fault_in c.fault ≡ e.fault
 
--- the bytes of the operand are those of the result so far, and behind them those of the pattern
+-- the bytes of the operand are those of the result so far, and behind them those of the pattern, which stand in storage
 pub record IsEdited (pattern : List ℕ) (e : Editing) (o : FirstOperand) (c : CodeEditing) : Type 0 where
   pub is : IsEditing e c
   pub bytes : o.bytes ≡ e.made ++ drop (length e.made) pattern
+  pub stands : pattern ≡ operand_bytes o.storage o.address (length o.bytes)
+  pub inside : o.address + length o.bytes ≤ length o.storage.bytes
 
 -- the source of an operand, of which nothing is stored yet
 abbrev pub source_of : FirstOperand → ℕ → Source

@@ -101,10 +101,6 @@ in_rs row bytes v = row v (high_digit bytes 1) (low_digit bytes 1) (based_addres
 abbrev pub in_si : (View → ℕ → ℕ → Outcome) → List ℕ → View → Outcome
 in_si row bytes v = row v (slice_index bytes 1) (based_address v bytes 2)
 
--- a row of the decimal feature: without it the code is that of no operation
-abbrev pub if_decimal : View → Outcome → Outcome
-if_decimal v outcome = if v.core.decimal then outcome else record { ended = Program operation_code; core = v.core }
-
 -- the length field and two addresses
 abbrev pub in_ss : (View → ℕ → ℕ → ℕ → Outcome) → List ℕ → View → Outcome
 in_ss row bytes v = row v (slice_index bytes 1) (based_address v bytes 2) (based_address v bytes 4)

@@ -1,5 +1,5 @@
 //! Decimal arithmetic on packed operands in storage. Source: GA22-6821, "Decimal Arithmetic".
-ghost use Rattle.std.specs.Prelude.{◌≡◌, ◌<◌, ◌≤◌, ◌-◌, IfNone, IfOk, IfSome, OnOk, length};
+ghost use Rattle.std.specs.Prelude.{◌≡◌, ◌<◌, ◌≤◌, IfNone, IfOk, false, length};
 ghost use Rattle.s360_store.specs.Plans.{HasBytes};
 ghost use Rattle.s360_fixed.specs.Plans.{PutsNothing, PutsOutcome};
 ghost use Rattle.s360_fixed.specs.ProgramCodes.{program_code};
@@ -34,12 +34,10 @@ fn code_of_fault(fault: DecimalFault) -> ProgramCode
 
 /// Whether two operands share a byte, and the first one ends left of the second.
 pub fn overlaps_to_the_left(first: Field, second: Field) -> bool
-    requires first { first.address + first.count ≤ 1048576 }
-    requires second { second.address + second.count ≤ 1048576 }
     ensures { result ≡ overlaps_to_the_left first second }
 {
-    let (end, second_end) = (first.address + first.count, second.address + second.count);
-    second.address < end && end < second_end && first.address < second_end
+    let (end, second_end) = (first.end(), second.end());
+    u64::from(second.address) < end && end < second_end && u64::from(first.address) < second_end
 }
 
 /// How an instruction ends that sets this condition code by its sum.
@@ -102,12 +100,7 @@ impl DecimalRow {
 
 /// What keeps two operands from being used: wrong lengths, one is outside storage, or one is protected, found in this
 /// order.
-fn exception_of(
-    view: &View,
-    row: DecimalRow,
-    first: Field,
-    second: Field,
-) -> Option<ProgramCode>
+fn exception_of(view: &View, row: DecimalRow, first: Field, second: Field) -> Option<ProgramCode>
     requires some_first { 0 < first.count }
     requires few_first { first.count ≤ 16 }
     requires some_second { 0 < second.count }

@@ -5,7 +5,7 @@ ghost use Rattle.s360_fixed.specs.Plans.{PutsNothing, PutsOutcome};
 ghost use Rattle.s360_fixed.specs.Table.{form_of, instruction_length};
 ghost use Rattle.s360_logic.specs.Instruction.{fetched_outcome};
 
-use crate::feature::{put_decimal_ss, put_edit_ss};
+use crate::feature::put_feature;
 use crate::formats::{
     put_branch_rr, put_branch_rs, put_branch_rx, put_byte_si, put_bytes_ss, put_conversion_rx,
     put_digits_ss, put_io_si, put_key_rr, put_pair_rr, put_pair_rx, put_pair_shift_rs, put_rr,
@@ -13,13 +13,13 @@ use crate::formats::{
 };
 use crate::logic::put_execute;
 use crate::row::{
-    ByteCombination, Conversion, DecimalRow, DigitRow, EditRow, ImmediateRow, KeyRow,
-    RegisterStatus, StorageRow, StorageStatus,
+    ByteCombination, Conversion, DigitRow, ImmediateRow, KeyRow, RegisterStatus, StorageRow,
+    StorageStatus,
 };
 use s360_fixed::{
-    Branch, Combination, Ended, IndexBranch, IoOperation, PairCombination, ProgramCode,
-    SecondOperand, Shift, View, Width, based_address, high_register, indexed_address, low_register,
-    put_loads, put_stores,
+    Branch, Combination, Ended, IndexBranch, IoOperation, PairCombination, SecondOperand, Shift,
+    View, Width, based_address, high_register, indexed_address, low_register, put_loads,
+    put_stores,
 };
 use s360_store::Puts;
 use std::alloc::AllocError;
@@ -136,17 +136,9 @@ pub(crate) fn put_bytes<P: Puts>(
         0xD7 => put_bytes_ss(ByteCombination::BitwiseExclusiveOr, bytes, view, puts),
         0xDC => put_ss(StorageRow::Translate, bytes, view, puts),
         0xDD => put_ss(StorageRow::TranslateAndTest, bytes, view, puts),
-        0xDE => put_edit_ss(EditRow::Edit, bytes, view, puts),
-        0xDF => put_edit_ss(EditRow::EditAndMark, bytes, view, puts),
         0xF1 => put_digits_ss(DigitRow::MoveWithOffset, bytes, view, puts),
         0xF2 => put_digits_ss(DigitRow::Pack, bytes, view, puts),
         0xF3 => put_digits_ss(DigitRow::Unpack, bytes, view, puts),
-        0xF8 => put_decimal_ss(DecimalRow::ZeroAndAdd, bytes, view, puts),
-        0xF9 => put_decimal_ss(DecimalRow::Compare, bytes, view, puts),
-        0xFA => put_decimal_ss(DecimalRow::Add, bytes, view, puts),
-        0xFB => put_decimal_ss(DecimalRow::Subtract, bytes, view, puts),
-        0xFC => put_decimal_ss(DecimalRow::Multiply, bytes, view, puts),
-        0xFD => put_decimal_ss(DecimalRow::Divide, bytes, view, puts),
-        _ => Ok(Ended::Program(ProgramCode::Operation)),
+        _ => put_feature(bytes, view, puts),
     }
 }

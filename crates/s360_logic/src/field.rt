@@ -1,6 +1,6 @@
 //! Operands in storage, and what keeps them from being used. Source: GA22-6821, "System Structure",
 //! protection feature, and "Interruptions", program interruption.
-ghost use Rattle.std.specs.Prelude.{◌≡◌, ◌<◌, ◌≤◌, IfNone};
+ghost use Rattle.std.specs.Prelude.{◌≡◌, ◌<◌, ◌≤◌, ◌+◌, IfNone};
 ghost use Rattle.s360_store.specs.Plans.{HasBytes};
 ghost use Rattle.s360_fixed.specs.ProgramCodes.{program_code};
 ghost use Rattle.s360_logic.specs.Bytes.{field_access, fields_conditions, first_field, second_field};
@@ -40,6 +40,13 @@ impl Field {
             address,
             count: u32::from(l % 16) + 1,
         }
+    }
+
+    /// The address behind its last byte.
+    pub(crate) fn end(self) -> u64
+        ensures { result ≡ self.address + self.count }
+    {
+        u64::from(self.address) + u64::from(self.count)
     }
 }
 

@@ -1,12 +1,13 @@
 //! Storage as an instruction has it so far, which stores into its first operand alone.
-ghost use Rattle.std.specs.Prelude.{◌≡◌, ◌<◌, ◌≤◌, ◌+◌, ◌^◌, ◌⊎◌, IfOk, IfSome, OnSome, length, slice_set};
+ghost use Rattle.std.specs.Prelude.{◌≡◌, ◌<◌, ◌≤◌, ◌+◌, ◌^◌, ◌⊎◌, IfOk, IfSome, OnSome, length, slice_index, slice_set};
 ghost use Rattle.s360_fixed.specs.Plans.{PutsNothing, PutsOutcome};
 ghost use Rattle.s360_logic.specs.Bytes.{byte_at, completed_with, operand_bytes};
 ghost use Rattle.s360_logic.specs.Operands.{stored_in};
 
+use crate::condition::put_result;
 use crate::field::Field;
 use arrayvec::ArrayVec;
-use s360_fixed::{Ended, View, psw_with};
+use s360_fixed::{Ended, View};
 use s360_store::{GREATEST_SIZE, Puts, Storage};
 use s360_word::Cc;
 use std::alloc::AllocError;
@@ -100,7 +101,8 @@ impl<'a> FirstOperand<'a> {
     /// Its byte at `i`, counted from 0 at the left.
     pub(crate) fn own_byte(&self, i: u32) -> u8
         requires inside { i < length self.now.bytes }
-        ensures { result ≡ byte_at (stored_in self.now) (self.now.address + i) }
+        ensures stored { result ≡ byte_at (stored_in self.now) (self.now.address + i) }
+        ensures own { result ≡ slice_index self.now.bytes i }
     {
         self.bytes[i as usize]
     }
@@ -153,10 +155,10 @@ impl<'a> FirstOperand<'a> {
         requires none { PutsNothing P.Puts puts.old view.now }
         ensures { IfOk result (PutsOutcome P.Puts puts.new view.now (completed_with view.now code (stored_in self.now))) }
     {
-        prove!(self.address() + self.len() <= self.storage.size());
-        let psw = psw_with(code, view.psw()).with_instruction_address(view.next_address());
-        puts.put_psw(view.core(), psw)?;
-        puts.put_bytes(view.core(), self.address(), self.bytes())?;
-        Ok(Ended::Done)
+        let field = Field {
+            address: self.address(),
+            count: self.len(),
+        };
+        put_result(view, field, code, self.bytes(), puts)
     }
 }

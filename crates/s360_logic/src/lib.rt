@@ -32,6 +32,6 @@ pub use laws::digits_of_apart_operands;
 pub use logic::{plan_logic, put_logic, subject_of, with_ored_byte};
 pub use row::{
     ByteCombination, Conversion, DecimalRow, DigitRow, EditRow, ImmediateRow, KeyRow,
-    RegisterStatus, StorageRow, StorageStatus, conversion_of, immediate_row_of,
-    register_status_of, storage_row_of, storage_status_of,
+    RegisterStatus, StorageRow, StorageStatus, conversion_of, immediate_row_of, register_status_of,
+    storage_row_of, storage_status_of,
 };

@@ -62,10 +62,22 @@ pub(crate) fn put_storage<P: Puts>(
         StorageRow::Translate => put_translate(view, first, second, count, puts),
         StorageRow::TranslateAndTest => put_translate_and_test(view, first, second, count, puts),
         StorageRow::Digits(row) => {
-            put_digits(view, row, Field::first(l, first), Field::second(l, second), puts)
+            put_digits(
+                view,
+                row,
+                Field::first(l, first),
+                Field::second(l, second),
+                puts,
+            )
         }
         StorageRow::Decimal(row) => {
-            put_decimal(view, row, Field::first(l, first), Field::second(l, second), puts)
+            put_decimal(
+                view,
+                row,
+                Field::first(l, first),
+                Field::second(l, second),
+                puts,
+            )
         }
         StorageRow::Edit(row) => {
             let field = Field {

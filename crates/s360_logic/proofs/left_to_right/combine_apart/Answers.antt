@@ -24,7 +24,7 @@ loop-i-preserved c =
     in let within : i < length old.bytes = omega arith
     in let there : get_or c.args.other.now i 0 ≡ byte_at (stored_in now) (c.args.second + i)
     = ap (λ xs. get_or xs i 0) c.requires.other ∙ operand_bytes-at old.storage c.args.second (length old.bytes) i within ∙ sym (v.later (c.args.second + i) (apart-at old c.args.second i within c.requires.apart))
-    in let own : c.own_byte.result ≡ byte_at (stored_in now) (old.address + i) = c.own_byte.ensures ∙ ap (λ a. byte_at (stored_in now) (a + i)) v.address
+    in let own : c.own_byte.result ≡ byte_at (stored_in now) (old.address + i) = c.own_byte.ensures.stored ∙ ap (λ a. byte_at (stored_in now) (a + i)) v.address
     in let byte : c.of-result.result ≡ combined_byte c.args.combination old.address c.args.second i (stored_in now)
     = rw (c.of-result.ensures, own, there) refl
     in rw c.set.ensures (record {
