@@ -1,6 +1,6 @@
 -- The puts of an interruption.
-use Rattle.std.proofs.Common.{◌≡◌, ◌≤◌, ◌+◌, ◌-◌, ◌++◌, ℕ, zero, suc, List, refl, ap, arith, sym, ◌∙◌, drop, length, take, slice_index, append_assoc, drop-drop, drop_at, get_or-drop, length-append, length-take-le, take-take, take_at}
-use Rattle.std.specs.Int.{bytes_high_first}
+use Rattle.std.proofs.Common.{◌≡◌, ◌≤◌, ◌+◌, ◌-◌, ◌++◌, ℕ, zero, suc, List, [], ◌∷◌, refl, ap, arith, sym, ◌∙◌, drop, length, take, slice_index, append_assoc, drop-drop, drop_at, get_or-drop, length-append, length-take-le, take-take, take_at}
+use Rattle.std.specs.Int.{bytes_high_first, from_be_bytes, w64}
 use Rattle.s360_model.specs.Core.{Core, core_with_bytes, core_with_psw}
 use Rattle.s360_model.specs.Psw.{current_psw, stored_psw}
 use Rattle.s360_model.specs.Storage.{Storage, doubleword_at, number_at, with_run}
@@ -76,3 +76,24 @@ taken-made m a b c code next old csw size eight first then last en eo =
     in last ∙ ap (λ (k : Core). core_with_bytes 64 csw k) (then ∙ ap (λ (k : Core). core_with_bytes 56 old k) first)
     ∙ ap (λ bs. core_with_psw next (record m { storage = record m.storage { bytes = bs } })) bytes
     ∙ interrupted-core (core_with_bytes 64 csw m) InputOutput m.psw code NotAvailable next 56 old refl loaded eo
+
+-- the puts of an interruption over bytes that were put: old PSW, PSW
+pub interruption-over : (a b c : Core) (class : Class) (psw code : ℕ) (il : InstructionLength) (next at-old : ℕ) (bytes : List ℕ) → b ≡ core_with_bytes at-old bytes a → c ≡ core_with_psw next b → at-old ≡ old_location_of class
+    → next ≡ current_psw (doubleword_at a.storage.bytes (new_location_of class)) → bytes ≡ bytes_high_first 8 (stored_psw psw code (length_code_of il)) → c ≡ after_interruption class code il (core_with_psw psw a)
+interruption-over a b c class psw code il next at-old bytes first then eo en eb =
+    then ∙ ap (λ (k : Core). core_with_psw next k) first ∙ interrupted-core a class psw code il next at-old bytes eo en eb
+
+-- eight successive bytes are a doubleword
+pub doubleword-of : (xs : List ℕ) (a b0 b1 b2 b3 b4 b5 b6 b7 : ℕ) → b0 ≡ slice_index xs a → b1 ≡ slice_index xs (a + 1) → b2 ≡ slice_index xs (a + 2) → b3 ≡ slice_index xs (a + 3) → b4 ≡ slice_index xs (a + 4)
+    → b5 ≡ slice_index xs (a + 5) → b6 ≡ slice_index xs (a + 6) → b7 ≡ slice_index xs (a + 7)
+    → from_be_bytes w64 (b0 ∷ b1 ∷ b2 ∷ b3 ∷ b4 ∷ b5 ∷ b6 ∷ b7 ∷ []) ≡ doubleword_at xs a
+doubleword-of xs a b0 b1 b2 b3 b4 b5 b6 b7 e0 e1 e2 e3 e4 e5 e6 e7 =
+    let at : ℕ → ℕ = slice_index xs
+    in let s1 : a + 1 ≡ suc a = omega arith
+    in let s2 : a + 2 ≡ suc (suc a) = omega arith
+    in let s3 : a + 3 ≡ suc (suc (suc a)) = omega arith
+    in let s4 : a + 4 ≡ suc (suc (suc (suc a))) = omega arith
+    in let s5 : a + 5 ≡ suc (suc (suc (suc (suc a)))) = omega arith
+    in let s6 : a + 6 ≡ suc (suc (suc (suc (suc (suc a))))) = omega arith
+    in let s7 : a + 7 ≡ suc (suc (suc (suc (suc (suc (suc a)))))) = omega arith
+    in omega (arith, e0, e1 ∙ ap at s1, e2 ∙ ap at s2, e3 ∙ ap at s3, e4 ∙ ap at s4, e5 ∙ ap at s5, e6 ∙ ap at s6, e7 ∙ ap at s7)

@@ -164,23 +164,23 @@ impl Machine {
         requires leaves { LeavesOthers self.now.whole beside.old }
         ensures { OnOk result (PutsAfter self.now.whole (P.made puts.new) (P.may puts.new) beside.new after_instruction) }
     {
+        let (core, length) = (&self.core, planned.instruction_length);
+        let psw = puts
+            .psw(core)
+            .with_instruction_address(planned.next_address);
         let (class, code) = match planned.ended {
             Ended::Done => return Ok(()),
             Ended::Program(code) => (Class::Program, code.number()),
-            Ended::DecimalOverflow => (Class::Program, ProgramCode::DecimalOverflow.number()),
+            Ended::DecimalOverflow => {
+                // Of all that an interruption follows this alone has put bytes of storage.
+                let code = ProgramCode::DecimalOverflow.number();
+                return put_interruption_over(core, Class::Program, psw, code, length, puts);
+            }
             Ended::Svc(code) => (Class::Supervisor, u16::from(code)),
             Ended::Io(operation, unit) => {
                 return self.put_io(operation, unit, planned.next_address, puts, beside);
             }
         };
-        let psw = puts
-            .psw(&self.core)
-            .with_instruction_address(planned.next_address);
-        let (core, length) = (&self.core, planned.instruction_length);
-        if planned.ended == Ended::DecimalOverflow {
-            // Of all that an interruption follows this alone has put bytes of storage.
-            return put_interruption_over(core, class, psw, code, length, puts);
-        }
         put_interruption(core, class, psw, code, length, puts)
     }
 }

@@ -16,6 +16,8 @@ fn double<P: Puts>(core: &Core, puts: &P, address: u32) -> u64
     requires inside { address + 8 ≤ length core.now.storage.bytes }
     ensures { result ≡ doubleword_at (P.made puts.now core.now).storage.bytes address }
 {
+    // So no address of it passes 32 bits.
+    let _ = core.storage();
     u64::from_be_bytes([
         puts.byte(core, address),
         puts.byte(core, address + 1),
@@ -48,7 +50,8 @@ pub(crate) fn put_interruption_over<P: Puts>(
     let next = Psw::from_u64(double(core, puts, class.new_location()));
     let stored = psw.stored(code, instruction_length);
     puts.put_bytes_over(core, class.old_location(), &stored.to_be_bytes())?;
-    puts.put_psw(core, next)
+    puts.put_psw(core, next)?;
+    Ok(())
 }
 
 /// Puts an interruption of the core as the puts leave it, with this PSW in place of its own: it is

@@ -4,7 +4,7 @@ use Rattle.std.proofs.lemmas.Bool.{cases_lt, eq-eqb, eqb-true}
 use Rattle.s360_model.specs.Core.{Core, core_with_bytes, core_with_psw}
 use Rattle.s360_model.specs.Psw.{IsCurrentPsw}
 use Rattle.s360_store.specs.declared.place.Place.{Place}
-use Rattle.s360_store.specs.declared.place.Place.TheVariants.{Psw, Register, Byte, Key, Run, External, UnitState, UnitMedia}
+use Rattle.s360_store.specs.declared.place.Place.TheVariants.{Psw, Byte}
 use Rattle.s360_store.specs.declared.place.Cell.{Cell}
 use Rattle.s360_store.specs.Cells.{AllDiffer, AreCellsOf, IsFresh, after_exchange, byte_cells, places_of_cells}
 use Rattle.s360_store.specs.CoreChanges.{AllBefore, CoreChange, IsCoreChange, after_core_change, cells_of_change, core_with_psw_if, other_psw, psw_cell}

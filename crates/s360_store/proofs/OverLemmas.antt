@@ -8,13 +8,13 @@ use Rattle.std.specs.Bool.{Decides}
 use Rattle.std.specs.List.{filter}
 use Rattle.s360_model.specs.Core.{Core, core_with_bytes}
 use Rattle.s360_store.specs.declared.place.Place.{Place}
-use Rattle.s360_store.specs.declared.place.Place.TheVariants.{Psw, Register, Byte, Key, Run, External, UnitState, UnitMedia}
+use Rattle.s360_store.specs.declared.place.Place.TheVariants.{Psw, Register, Byte}
 use Rattle.s360_store.specs.declared.place.Cell.{Cell}
 use Rattle.s360_store.specs.Cells.{AllDiffer, AreCellsOf, HasEachOnce, IsFresh, after_exchange, byte_cells, places_of_cells}
 use Rattle.s360_store.specs.CoreChanges.{AllBefore, CoreChange, IsCoreChange, after_core_change, cells_before, cells_from, core_with_psw_if, psw_cell}
 use Rattle.s360_store.specs.Differences.{KeepsAltering}
 use Rattle.s360_store.specs.Order.{IsAscending, IsBefore, IsBeforeAll, kind_of, number_of, precedes}
-use Rattle.s360_store.specs.Places.{value_at, with_value}
+use Rattle.s360_store.specs.Places.{with_value}
 use Rattle.s360_store.specs.Plans.{HasBytes}
 use Rattle.s360_store.proofs.AscendingLemmas.{IsAscending-filter, IsBeforeAll-filter}
 use Rattle.s360_store.proofs.CoreChangeLemmas.{bytes-kept, bytes-may, fresh-first, if-bytes}

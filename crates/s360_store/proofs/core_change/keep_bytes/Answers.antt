@@ -1,7 +1,6 @@
-use Rattle.std.proofs.Common.{◌≡◌, ◌<◌, ◌≤◌, ◌+◌, ◌-◌, ◌++◌, ◌∙◌, ℕ, List, ap, get_or, length, arith, take, drop, subst, length-drop, length-take-le}
+use Rattle.std.proofs.Common.{◌≡◌, ◌<◌, ◌+◌, ◌-◌, ◌++◌, ◌∙◌, ℕ, List, ap, get_or, length, arith, take, drop, length-drop, length-take-le}
 use Rattle.s360_model.specs.Storage.{Storage}
 use Rattle.s360_store.specs.declared.place.Place.TheVariants.{Byte}
-use Rattle.s360_store.specs.declared.place.Cell.{Cell}
 use Rattle.s360_store.specs.Cells.{byte_cells}
 use Rattle.s360_store.specs.CoreChanges.{AllBefore}
 use Rattle.s360_store.proofs.CoreChangeLemmas.{AllBefore-byte, AllBefore-run, IsAscending-run}

@@ -1,7 +1,6 @@
 use Rattle.std.proofs.Common.{◌≡◌, ◌∙◌, ◌<◌, ◌≤◌, ◌+◌, ◌++◌, ℕ, List, ap, get_or, length, arith}
 use Rattle.s360_store.specs.declared.place.Cell.{Cell}
 use Rattle.s360_store.specs.CoreChanges.{CoreChange, IsCoreChange, cells_before}
-use Rattle.s360_store.specs.Plans.{HasBytes}
 use Rattle.s360_store.proofs.OverLemmas.{AllBefore-before, IsCoreChange-before, IsOver, over-few, over-made, over-may, over-most, over-room}
 use Rattle.s360_store.proofs.core_change.CoreChangePuts.put_bytes_over.Goals as goal
 use Rattle.s360_store.proofs.core_change.CoreChangePuts.put_bytes_over.Goals.{After-drop-self-inside}

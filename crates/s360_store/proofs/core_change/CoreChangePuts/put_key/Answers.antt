@@ -1,9 +1,9 @@
-use Rattle.std.proofs.Common.{◌≡◌, ◌≢◌, ◌^◌, ◌<◌, ◌∙◌, inl, ap, slice_index, arith}
+use Rattle.std.proofs.Common.{◌≡◌, ◌≢◌, ◌∙◌, inl, ap, slice_index, arith}
 use Rattle.s360_model.specs.Storage.{Storage}
 use Rattle.s360_store.specs.declared.place.Cell.{Cell}
 use Rattle.s360_store.specs.declared.place.Place.TheVariants.{Key}
 use Rattle.s360_store.specs.Places.{value_at}
-use Rattle.s360_store.specs.CoreChanges.{AllBefore, CoreChange, IsCoreChange}
+use Rattle.s360_store.specs.CoreChanges.{AllBefore, CoreChange}
 use Rattle.s360_store.proofs.CoreChangeLemmas.{AllBefore-later, AllBefore-push, other-made, other-may, same-made}
 use Rattle.s360_store.proofs.core_change.CoreChangePuts.put_key.Goals as goal
 use Rattle.s360_store.proofs.core_change.CoreChangePuts.put_key.Goals.{In_ok-push}
