@@ -64,11 +64,12 @@ class LackingRecording(Recording):
 
     def take_back(self):
         """What was taken back is looked at, which takes memory."""
-        super().take_back()
+        event = super().take_back()
         if self.backs_left is not None:
             self.backs_left -= 1
             if self.backs_left == 0:
                 raise WantOfMemory
+        return event
 
 
 class LackingTarget(Target):
